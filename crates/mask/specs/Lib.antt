@@ -1,0 +1,3 @@
+-- Sets of stations: what they are, and their laws.
+pub mod Mask
+pub mod Laws
