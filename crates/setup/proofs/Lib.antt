@@ -1,0 +1,2 @@
+-- What the proofs of several rules cite.
+pub mod Products
