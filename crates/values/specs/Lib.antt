@@ -1,0 +1,2 @@
+-- Document 01's marked values, in one table.
+pub mod Table

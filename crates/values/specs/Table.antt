@@ -1,0 +1,48 @@
+-- The values that document 01, "Values on each side", marks (p): one line each, by computation on the definitions.
+use Prim.Native.Nat.{ℕ}
+use mathlib.Core.List.{List, [], _∷_}
+use mathlib.Core.Path.{_≡_, refl}
+use lib.ListN.{replicate}
+use Rattle.setup.specs.declared.Plan.{Plan}
+use Rattle.setup.specs.Setup.{badStations, badFaults, badLimits, badMarks, gap, steps, spreads, planAnswer, badFirst, someBadFirst, firstAnswer, setupAnswer}
+use Rattle.mask.specs.Mask.{has, countTo, count, below}
+
+-- the base with D, A and P left open: n 4, f 1, r 1, T 2,000, no faulty
+abbrev plan : ℕ → ℕ → ℕ → Plan
+plan d a p = record { stations = 4; faults = 1; drift = 1; bound = 2_000; spread = d; step = a; period = p; faulty = 0 }
+
+-- what a plan of four stations is answered, each first reading x
+abbrev answer : Plan → ℕ → ℕ
+answer s x = setupAnswer s (replicate 4 x)
+
+pub record Values : Type 0 where
+  -- base 0; D 2,200 gives 7; A 4,201 gives 6; P 6,203 gives 0, P 6,202 gives 5
+  pub base : answer (plan 2_201 4_202 1_000_000) 4_202 ≡ 0
+  pub spread : answer (plan 2_200 4_202 1_000_000) 4_202 ≡ 7
+  pub step : answer (plan 2_201 4_201 1_000_000) 4_202 ≡ 6
+  pub gap-passed : answer (plan 2_201 4_202 6_203) 4_202 ≡ 0
+  pub gap : answer (plan 2_201 4_202 6_202) 4_202 ≡ 5
+  -- D 2,200 with A 4,200 gives 6, not 7
+  pub step-first : answer (plan 2_200 4_200 1_000_000) 4_202 ≡ 6
+  -- a first reading 6,202 gives 0; 6,203 gives 8
+  pub last-first : setupAnswer (plan 2_201 4_202 1_000_000) (4_202 ∷ 4_202 ∷ 4_202 ∷ 6_202 ∷ []) ≡ 0
+  pub late-first : setupAnswer (plan 2_201 4_202 1_000_000) (4_202 ∷ 4_202 ∷ 4_202 ∷ 6_203 ∷ []) ≡ 8
+  -- n 2, f 1 gives 2
+  pub faults : setupAnswer
+      (record { stations = 2; faults = 1; drift = 1; bound = 2_000; spread = 2_201; step = 4_202; period = 1_000_000; faulty = 0 })
+      (4_202 ∷ 4_202 ∷ [])
+      ≡ 2
+
+pub values : Values
+unfolding setupAnswer firstAnswer someBadFirst badFirst planAnswer badStations badFaults badLimits badMarks gap steps spreads has countTo count below
+values = record {
+  base = refl;
+  spread = refl;
+  step = refl;
+  gap-passed = refl;
+  gap = refl;
+  step-first = refl;
+  last-first = refl;
+  late-first = refl;
+  faults = refl;
+}
