@@ -1,25 +1,19 @@
 -- The clock's law between any two moments, as sums: it holds over one advance that keeps the drift rule, and it adds up
 -- over advances. Whoever speaks of a stretch of a clock uses this and not the rule's text.
 use Prim.Native.Nat.{ℕ, _+_, _*_, _≤_}
-use mathlib.Core.Bool.{Bool, true, false, _&&_}
-use mathlib.Core.Path.{_≡_, refl}
+use mathlib.Core.Bool.{true, _&&_}
+use mathlib.Core.Path.{_≡_}
 use native.Mathlib.Omega.{arith}
 use lib.Dec.{leb}
 use borrow.Author.Tests.{leb-true}
 use Rattle.clock.specs.Limits.{parts}
+use Rattle.clock.specs.Tests.{both}
 use Rattle.clock.specs.Drift.{rate, keeps}
 
 -- from moment t and reading c to moment u and reading e a clock of drift r went neither too slowly nor too fast
 pub record Kept (r t c u e : ℕ) : Type 0 where
   pub slow : parts * u + rate r * c ≤ parts * t + rate r * e
   pub fast : parts * e + rate r * t ≤ parts * c + rate r * u
-
--- both parts of a test that holds
-pub both : (a b : Bool) → (a && b) ≡ true → (a ≡ true) × (b ≡ true)
-both true true e = (refl, refl)
-both true false e = (refl, e)
-both false true e = (e, refl)
-both false false e = (e, e)
 
 -- no time, no change
 pub kept-still : (r t c : ℕ) → Kept r t c t c

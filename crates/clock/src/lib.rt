@@ -3,6 +3,7 @@
 // difference of readings is signed, so that it fits neither. Both count whole microseconds.
 ghost use mathlib.Core.Path.{_≡_};
 ghost use Rattle.clock.specs.Time.{later, mark, leadOf};
+ghost use Rattle.clock.specs.Tests as test;
 ghost use Rattle.clock.specs.Drift.{inDrift};
 
 // The limits of document 01.
@@ -97,6 +98,13 @@ impl Reading {
         }
         (a as i64) - (b as i64)
     }
+}
+
+// Whether x is not from low to high.
+pub fn outside(low: u64, high: u64, x: u64) -> bool
+    ensures { λ r. ⌜ r ≡ test.outside low high x ⌝ }
+{
+    (x < low) | (high < x)
 }
 
 // Whether an increment over a span keeps the drift rule: with S = M + drift, M times span is at most S times

@@ -1,30 +1,18 @@
 -- What follows from a setup that passes: each rule by name, as a fact about numbers.
-use Prim.Native.Nat.{ℕ, zero, suc, _+_, _*_, _-_, _≤_, _<_, _^_}
-use mathlib.Core.Bool.{Bool, true, false, _||_, not}
-use mathlib.Core.Path.{_≡_, refl}
-use native.Mathlib.Omega.{arith}
+use Prim.Native.Nat.{ℕ, _+_, _*_, _-_, _≤_, _<_, _^_}
+use mathlib.Core.Bool.{false, not}
+use mathlib.Core.Path.{_≡_}
 use mathlib.Core.List.{List}
-use lib.Dec.{ltb, leb, eqb}
-use lib.ListN.{length, getD}
+use lib.Dec.{ltb, eqb}
+use lib.ListN.{length}
 use borrow.Author.Tests.{ltb-true, ltb-false, leb-true, eqb-true, not-false}
 use Rattle.clock.specs.Limits.{parts, maxStations, maxDrift, maxBound, maxSpread, maxStep, maxPeriod}
 use Rattle.clock.specs.Drift.{rate}
-use Rattle.clock.specs.Kept.{both}
+use Rattle.clock.specs.Tests.{some, both, neither, inside}
 use Rattle.clock.specs.Pick.{refuse-none, orElse-none}
-use Rattle.mask.specs.Mask.{has, count, below}
+use Rattle.mask.specs.Mask.{count, below}
 use Rattle.setup.specs.declared.Plan.{Plan}
-use Rattle.setup.specs.Setup.{outside, badStations, badFaults, badLimits, badMarks, gap, steps, spreads, planAnswer, badFirst, someBadFirst, firstAnswer, setupAnswer}
-
--- neither of two tests holds
-pub neither : (a b : Bool) → (a || b) ≡ false → (a ≡ false) × (b ≡ false)
-neither true true e = (e, e)
-neither true false e = (e, refl)
-neither false true e = (refl, e)
-neither false false e = (refl, refl)
-
--- what is not outside is inside
-pub inside : (low high x : ℕ) → outside low high x ≡ false → (low ≤ x) × (x ≤ high)
-inside low high x e = let n = neither (ltb x low) (ltb high x) e in (ltb-false x low (n .0), ltb-false high x (n .1))
+use Rattle.setup.specs.Setup.{badStations, badFaults, badLimits, badMarks, gap, steps, spreads, planAnswer, badFirst, firstAnswer, setupAnswer}
 
 -- r, T, D, A and P are within their limits
 pub record InLimits (s : Plan) : Type 0 where
@@ -87,10 +75,10 @@ planned s e =
 
 -- an accepted setup has an accepted plan, n first readings, and none that breaks its rule
 pub accepted : (s : Plan) (first : List ℕ) → setupAnswer s first ≡ 0
-    → (planAnswer s ≡ 0) × (length first ≡ s .stations) × (someBadFirst s first (s .stations) ≡ false)
+    → (planAnswer s ≡ 0) × (length first ≡ s .stations) × (some (badFirst s) first (s .stations) ≡ false)
 unfolding setupAnswer firstAnswer
 accepted s first e =
     let a = orElse-none (planAnswer s) _ e in
     let b = refuse-none _ 7 0 (a .1) in
-    let c = neither (not (eqb (length first) (s .stations))) (someBadFirst s first (s .stations)) (b .0) in
+    let c = neither (not (eqb (length first) (s .stations))) (some (badFirst s) first (s .stations)) (b .0) in
     (a .0, eqb-true _ _ (not-false _ (c .0)), c .1)

@@ -1,18 +1,15 @@
 -- The setup check of document 01, "Setup" and "Numbers a caller gets back", 1 to 8.
-use Prim.Native.Nat.{ℕ, zero, suc, _+_, _*_, _-_}
-use mathlib.Core.Bool.{Bool, true, false, _&&_, _||_, not}
+use Prim.Native.Nat.{ℕ, _+_, _*_, _-_}
+use mathlib.Core.Bool.{Bool, _&&_, _||_, not}
 use mathlib.Core.List.{List}
 use lib.Dec.{ltb, leb, eqb}
-use lib.ListN.{length, getD}
+use lib.ListN.{length}
 use Rattle.clock.specs.Limits.{maxStations, maxDrift, maxBound, maxSpread, maxStep, maxPeriod, parts}
 use Rattle.clock.specs.Drift.{rate}
+use Rattle.clock.specs.Tests.{outside, some}
 use Rattle.clock.specs.Pick.{pick, refuse, orElse}
 use Rattle.mask.specs.Mask.{has, count, below}
 use Rattle.setup.specs.declared.Plan.{Plan}
-
--- x is not from low to high
-abbrev pub outside : ℕ → ℕ → ℕ → Bool
-outside low high x = ltb x low || ltb high x
 
 -- ---- the rules of a plan, n, f, r, T, D, A, P and the faulty mask
 
@@ -70,14 +67,9 @@ planAnswer s =
 unfoldable pub badFirst : Plan → ℕ → ℕ → Bool
 badFirst s i x = pick (has (s .faulty) i) (not (eqb x 0)) (outside (s .step) (s .step + s .bound) x)
 
--- one of the first k readings breaks its rule
-unfoldable pub someBadFirst : Plan → List ℕ → ℕ → Bool
-someBadFirst s first zero = false
-someBadFirst s first (suc k) = someBadFirst s first k || badFirst s k (getD first k 0)
-
 -- 8: not n first readings, or one that breaks its rule
 unfoldable pub firstAnswer : Plan → List ℕ → ℕ
-firstAnswer s first = refuse (not (eqb (length first) (s .stations)) || someBadFirst s first (s .stations)) 8 0
+firstAnswer s first = refuse (not (eqb (length first) (s .stations)) || some (badFirst s) first (s .stations)) 8 0
 
 -- the answer to a setup: its plan's, then its first readings'
 unfoldable pub setupAnswer : Plan → List ℕ → ℕ

@@ -2,6 +2,7 @@
 // refused, the checks in exactly that order. Any numbers and any number of first readings are answered.
 ghost use mathlib.Core.Path.{_≡_};
 ghost use lib.ListN.{length};
+ghost use Rattle.clock.specs.Tests.{some};
 ghost use Rattle.setup.specs.Setup as rule;
 ghost use Rattle.setup.specs.Laws.{InLimits};
 
@@ -15,12 +16,6 @@ pub struct Plan {
     pub step: u64,
     pub period: u64,
     pub faulty: u64,
-}
-
-fn outside(low: u64, high: u64, x: u64) -> bool
-    ensures { λ r. ⌜ r ≡ rule.outside low high x ⌝ }
-{
-    (x < low) | (high < x)
 }
 
 // 2: 2f + 1 > n, asked without a sum that could wrap.
@@ -37,11 +32,11 @@ fn bad_faults(plan: Plan) -> bool
 fn bad_limits(plan: Plan) -> bool
     ensures { λ r. ⌜ r ≡ rule.badLimits plan ⌝ }
 {
-    outside(0, clock::MAX_DRIFT, plan.drift)
-        | outside(1, clock::MAX_BOUND, plan.bound)
-        | outside(1, clock::MAX_SPREAD, plan.spread)
-        | outside(1, clock::MAX_STEP, plan.step)
-        | outside(1, clock::MAX_PERIOD, plan.period)
+    clock::outside(0, clock::MAX_DRIFT, plan.drift)
+        | clock::outside(1, clock::MAX_BOUND, plan.bound)
+        | clock::outside(1, clock::MAX_SPREAD, plan.spread)
+        | clock::outside(1, clock::MAX_STEP, plan.step)
+        | clock::outside(1, clock::MAX_PERIOD, plan.period)
 }
 
 // 4: a faulty mark at n or above, or more than f marks.
@@ -88,7 +83,7 @@ fn spreads(plan: Plan) -> bool
 pub fn plan_answer(plan: Plan) -> u64
     ensures { λ r. ⌜ r ≡ rule.planAnswer plan ⌝ }
 {
-    if outside(1, clock::MAX_STATIONS, plan.stations) {
+    if clock::outside(1, clock::MAX_STATIONS, plan.stations) {
         return 1;
     }
     if bad_faults(plan) {
@@ -120,13 +115,13 @@ fn bad_first(plan: Plan, i: u64, x: u64) -> bool
     if mask::has(plan.faulty, i) {
         return x != 0;
     }
-    outside(plan.step, plan.step + plan.bound, x)
+    clock::outside(plan.step, plan.step + plan.bound, x)
 }
 
 // Whether one of the first readings breaks its rule.
 fn some_bad_first(plan: Plan, first: &[u64]) -> bool
     requires { ⌜ InLimits plan ⌝ }
-    ensures { λ r. ⌜ r ≡ rule.someBadFirst plan (now (first .entry)) (length (now (first .entry))) ⌝ }
+    ensures { λ r. ⌜ r ≡ some (rule.badFirst plan) (now (first .entry)) (length (now (first .entry))) ⌝ }
 {
     let mut bad = false;
     let mut i = 0;

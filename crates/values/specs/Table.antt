@@ -3,8 +3,11 @@ use Prim.Native.Nat.{ℕ}
 use mathlib.Core.List.{List, [], _∷_}
 use mathlib.Core.Path.{_≡_, refl}
 use lib.ListN.{replicate}
+use Rattle.number.specs.declared.Number.the-variants.{Refused}
+use Rattle.number.specs.Number.{ends, numberFrom, readNumber}
 use Rattle.setup.specs.declared.Plan.{Plan}
-use Rattle.setup.specs.Setup.{badStations, badFaults, badLimits, badMarks, gap, steps, spreads, planAnswer, badFirst, someBadFirst, firstAnswer, setupAnswer}
+use Rattle.setup.specs.Setup.{badStations, badFaults, badLimits, badMarks, gap, steps, spreads, planAnswer, badFirst, firstAnswer, setupAnswer}
+use Rattle.clock.specs.Tests.{some}
 use Rattle.mask.specs.Mask.{has, countTo, count, below}
 
 -- the base with D, A and P left open: n 4, f 1, r 1, T 2,000, no faulty
@@ -32,9 +35,12 @@ pub record Values : Type 0 where
       (record { stations = 2; faults = 1; drift = 1; bound = 2_000; spread = 2_201; step = 4_202; period = 1_000_000; faulty = 0 })
       (4_202 ∷ 4_202 ∷ [])
       ≡ 2
+  -- `80 00` gives 22; `80` alone gives 21
+  pub longer : readNumber (0x80 ∷ 0x00 ∷ []) 0 ≡ Refused 22
+  pub cut : readNumber (0x80 ∷ []) 0 ≡ Refused 21
 
 pub values : Values
-unfolding setupAnswer firstAnswer someBadFirst badFirst planAnswer badStations badFaults badLimits badMarks gap steps spreads has countTo count below
+unfolding readNumber numberFrom ends setupAnswer firstAnswer some badFirst planAnswer badStations badFaults badLimits badMarks gap steps spreads has countTo count below
 values = record {
   base = refl;
   spread = refl;
@@ -45,4 +51,6 @@ values = record {
   last-first = refl;
   late-first = refl;
   faults = refl;
+  longer = refl;
+  cut = refl;
 }

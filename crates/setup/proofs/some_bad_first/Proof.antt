@@ -1,31 +1,23 @@
--- `setup::some_bad_first` answers `someBadFirst`: after i turns `bad` says whether one of the first i readings is. The
+-- `setup::some_bad_first` says whether some reading is bad: after i turns `bad` says whether one of the first i readings is. The
 -- measure is what is left of the readings. Assumes nothing.
-use Prim.Native.Nat.{ℕ, suc, _+_, _-_, _≤_}
-use mathlib.Core.Bool.{Bool, _||_}
-use mathlib.Core.List.{List}
-use mathlib.Core.Path.{_≡_, refl, ap₂, ap, _∙_}
-use native.Mathlib.Numerals.{add-one}
-use lib.ListN.{length, getD}
+use Prim.Native.Nat.{_-_, _≤_}
+use mathlib.Core.Path.{_≡_, sym, ap, _∙_}
+use lib.ListN.{length}
 use denote.Ref.{now}
-use Rattle.setup.specs.Setup.{badFirst, someBadFirst}
-use Rattle.setup.specs.declared.Plan.{Plan}
+use Rattle.clock.specs.Tests.{some, some-none, some-more}
+use Rattle.setup.specs.Setup.{badFirst}
 use native.Mathlib.Omega.{arith}
 use Rattle.setup.proofs.some_bad_first.Statement.{statement}
 use Rattle.setup.proofs.some_bad_first.Tie as tie
 
-turn : (s : Plan) (l : List ℕ) (i : ℕ) {bad x : Bool} → bad ≡ someBadFirst s l i → x ≡ badFirst s i (getD l i 0) → (bad || x) ≡ someBadFirst s l (i + 1)
-unfolding someBadFirst
-turn s l i p q = rw add-one (ap₂ _||_ p q)
-
 abbrev Inv-loop : tie.InvT-loop
-Inv-loop plan first bad₀ i₀ bad i = (i ≤ length first) × (bad ≡ someBadFirst plan first i)
+Inv-loop plan first bad₀ i₀ bad i = (i ≤ length first) × (bad ≡ some (badFirst plan) first i)
 
 abbrev μ-loop : tie.MeasureT-loop
 μ-loop plan first bad₀ i₀ bad i = length first - i
 
 loop-holds : tie.Need-loop-holds Inv-loop μ-loop
-unfolding someBadFirst
-loop-holds c = (omega arith, refl)
+loop-holds c = (omega arith, sym (some-none _ _))
 
 mul-bad-first : tie.Need-mul-bad-first Inv-loop μ-loop
 mul-bad-first c = omega arith
@@ -43,10 +35,10 @@ loop-less : tie.Need-loop-less Inv-loop μ-loop
 loop-less c = omega arith
 
 loop-again : tie.Need-loop-again Inv-loop μ-loop
-loop-again c = (omega arith, turn _ _ _ (c .before .before .before .loop .inv .1) (c .bad-first .ensures))
+loop-again c = (omega arith, some-more _ _ _ (c .before .before .before .loop .inv .1) (c .bad-first .ensures))
 
 returns : tie.Need-returns Inv-loop μ-loop
-returns c = let e : c .before .loop .i ≡ length (now (c .before .before .before .args .first)) = omega arith in c .before .loop .inv .1 ∙ ap (someBadFirst _ _) e
+returns c = let e : c .before .loop .i ≡ length (now (c .before .before .before .args .first)) = omega arith in c .before .loop .inv .1 ∙ ap (some _ _) e
 
 pub some-bad-first-spec : {M : Type 1} → statement M
 some-bad-first-spec =

@@ -1,0 +1,2 @@
+-- The events, and rule 11.
+pub mod Event
