@@ -1,17 +1,17 @@
 -- Laws of sets of stations: who is in a joined set and in the set of one station, how a count goes by members, and that
 -- `below` speaks of members too. A bit of a number is a remainder of a quotient, so each law is one about digits.
 use Prim.Native.Nat.{ℕ, zero, suc, _+_, _*_, _/_, _%_, _^_, _<_, _≤_, _-_}
-use mathlib.Core.Bool.{Bool, true, false, _||_, cond}
+use mathlib.Core.Bool.{Bool, true, false, _&&_, _||_, not, cond}
 use mathlib.Core.Path.{_≡_, refl, ap, ap₂, sym, _∙_}
 use native.Mathlib.Omega.{arith}
 use native.Mathlib.Nat.{div-eq-of-lt, pow-succ', div-div-eq-div-mul, div-one, zero-add, add-zero, lt-of-lt-of-le, div-lt-iff-lt-mul, lt-of-le-of-lt, mul-div-cancel, pow-suc, mul-mod-left, le-div-iff-mul-le}
 use native.Mathlib.Decide.{decLt}
 use lib.Dec.{ltb, eqb, eqb·zero-suc, eqb·suc-zero, eqb·suc-suc}
-use lib.Bits.{bitOr, or-shr, or-mod, or-lt}
+use lib.Bits.{bitAnd, bitOr, bitXor, and-shr, or-shr, xor-shr, and-mod, or-mod, xor-mod, and-le-l, or-lt, xor-lt}
 use lib.Count.{ones, ones-step}
-use lib.Pow.{pow-mono, pow-pos, pow-lt, shr-shr, shr-le}
+use lib.Pow.{pow-mono, pow-pos, pow-lt, shr-shr, shr-le, ones-lt, ones-split, high}
 use borrow.Author.Tests.{ltb-true, lt-ltb, le-ltb, eqb-true, ne-eqb}
-use Rattle.mask.specs.Mask.{has, one, countTo, count, below, join, only}
+use Rattle.mask.specs.Mask.{has, one, countTo, count, below, join, only, all, minus}
 
 -- ---- counting
 
@@ -93,21 +93,35 @@ count-below m n h le = go (64 - n) (omega arith)
 
 -- ---- the sets that are made
 
-either-bit : (x y : ℕ) → x < 2 → y < 2 → eqb (bitOr x y) 1 ≡ (eqb x 1 || eqb y 1)
-either-bit zero zero hx hy = refl
-either-bit zero (suc zero) hx hy = refl
-either-bit (suc zero) zero hx hy = refl
-either-bit (suc zero) (suc zero) hx hy = refl
-either-bit zero (suc (suc y)) hx hy = absurd (omega arith)
-either-bit (suc zero) (suc (suc y)) hx hy = absurd (omega arith)
-either-bit (suc (suc x)) y hx hy = absurd (omega arith)
+differs : Bool → Bool → Bool
+differs true b = not b
+differs false b = b
+
+-- a law of two bits
+bits : (f : ℕ → ℕ → ℕ) (g : Bool → Bool → Bool) → eqb (f 0 0) 1 ≡ g false false → eqb (f 0 1) 1 ≡ g false true
+    → eqb (f 1 0) 1 ≡ g true false → eqb (f 1 1) 1 ≡ g true true → (x y : ℕ) → x < 2 → y < 2
+    → eqb (f x y) 1 ≡ g (eqb x 1) (eqb y 1)
+bits f g a b c d zero zero hx hy = a
+bits f g a b c d zero (suc zero) hx hy = b
+bits f g a b c d (suc zero) zero hx hy = c
+bits f g a b c d (suc zero) (suc zero) hx hy = d
+bits f g a b c d zero (suc (suc y)) hx hy = absurd (omega arith)
+bits f g a b c d (suc zero) (suc (suc y)) hx hy = absurd (omega arith)
+bits f g a b c d (suc (suc x)) y hx hy = absurd (omega arith)
+
+-- who is in a set that is made bit by bit
+bitwise : (f : ℕ → ℕ → ℕ) (g : Bool → Bool → Bool) → ((a b k : ℕ) → f a b / 2 ^ k ≡ f (a / 2 ^ k) (b / 2 ^ k))
+    → ((a b k : ℕ) → f a b % 2 ^ k ≡ f (a % 2 ^ k) (b % 2 ^ k))
+    → ((x y : ℕ) → x < 2 → y < 2 → eqb (f x y) 1 ≡ g (eqb x 1) (eqb y 1)) → (a b i : ℕ) → has (f a b) i ≡ g (has a i) (has b i)
+unfolding has
+bitwise f g shr low two a b i =
+    ap (λ (x : ℕ). eqb (x % 2) 1) (shr a b i) ∙ ap (λ (x : ℕ). eqb x 1) (low (a / 2 ^ i) (b / 2 ^ i) 1)
+    ∙ two (a / 2 ^ i % 2) (b / 2 ^ i % 2) (omega arith) (omega arith)
 
 -- who is in a joined set
 pub has-join : (a b i : ℕ) → has (join a b) i ≡ (has a i || has b i)
-unfolding has join
-has-join a b i =
-    ap (λ (x : ℕ). eqb (x % 2) 1) (or-shr a b i) ∙ ap (λ (x : ℕ). eqb x 1) (or-mod (a / 2 ^ i) (b / 2 ^ i) 1)
-    ∙ either-bit (a / 2 ^ i % 2) (b / 2 ^ i % 2) (omega arith) (omega arith)
+unfolding join
+has-join a b i = bitwise bitOr _||_ or-shr or-mod (bits bitOr _||_ refl refl refl refl) a b i
 
 -- a joined set is as low as the two
 pub join-lt : (n a b : ℕ) → a < 2 ^ n → b < 2 ^ n → join a b < 2 ^ n
@@ -166,3 +180,46 @@ some-above m n w h =
   where
     shifted : (i : ℕ) → has m (n + i) ≡ has (m / 2 ^ n) i
     shifted i = ap (λ (x : ℕ). eqb (x % 2) 1) (sym (shr-shr m n i))
+
+-- who is in one set and not in the other
+pub has-minus : (a b i : ℕ) → has (minus a b) i ≡ (has a i && not (has b i))
+unfolding minus differs
+has-minus a b i =
+    bitwise bitXor differs xor-shr xor-mod (bits bitXor differs refl refl refl refl) a (bitAnd a b) i
+    ∙ ap (differs (has a i)) (bitwise bitAnd _&&_ and-shr and-mod (bits bitAnd _&&_ refl refl refl refl) a b i)
+    ∙ rest (has a i) (has b i)
+  where
+    rest : (x y : Bool) → differs x (x && y) ≡ (x && not y)
+    rest true true = refl
+    rest true false = refl
+    rest false true = refl
+    rest false false = refl
+
+-- and it is as low as the first
+pub minus-lt : (n a b : ℕ) → a < 2 ^ n → minus a b < 2 ^ n
+unfolding minus
+minus-lt n a b h = xor-lt n a (bitAnd a b) h (lt-of-le-of-lt (and-le-l a b) h)
+
+odd : (j : ℕ) → (2 ^ suc j - 1) % 2 ≡ 1
+odd j = let e : 2 ^ suc j ≡ 2 ^ j * 2 = pow-suc 2 j in omega (arith, pow-pos j)
+
+-- who is among the stations below n
+pub has-all : (n i : ℕ) → n ≤ 63 → has (all n) i ≡ ltb i n
+unfolding has all
+has-all n i most = elim (decLt i n) [
+  | yes h ↦ simp (lt-ltb n 64 (omega arith)) (in-all n i h ∙ sym (lt-ltb i n h))
+  | no h ↦ simp (lt-ltb n 64 (omega arith)) (has-below (2 ^ n - 1) n i (ones-lt n) (omega arith) ∙ sym (le-ltb i n (omega arith)))
+]
+  where
+    in-all : (n i : ℕ) → i < n → eqb ((2 ^ n - 1) / 2 ^ i % 2) 1 ≡ true
+    in-all n i h =
+        let split : suc (n - suc i) + i ≡ n = omega arith in
+        ap (λ (x : ℕ). eqb (x % 2) 1)
+        (ap (λ (k : ℕ). (2 ^ k - 1) / 2 ^ i) (sym split)
+        ∙ ap (λ (x : ℕ). x / 2 ^ i) (ones-split (suc (n - suc i)) i)
+        ∙ high (2 ^ suc (n - suc i) - 1) i (ones-lt i))
+        ∙ ap (λ (x : ℕ). eqb x 1) (odd (n - suc i))
+
+pub all-lt : (n : ℕ) → n ≤ 63 → all n < 2 ^ n
+unfolding all
+all-lt n h = simp (lt-ltb n 64 (omega arith)) (ones-lt n)

@@ -1,8 +1,8 @@
 -- A set of stations as a number: station i is in it where bit i is set.
-use Prim.Native.Nat.{ℕ, zero, suc, _+_, _/_, _%_, _^_}
+use Prim.Native.Nat.{ℕ, zero, suc, _+_, _-_, _/_, _%_, _^_}
 use mathlib.Core.Bool.{Bool, true, false, cond}
 use lib.Dec.{ltb, eqb}
-use lib.Bits.{bitOr}
+use lib.Bits.{bitAnd, bitOr, bitXor}
 
 -- station i is in the set
 unfoldable pub has : ℕ → ℕ → Bool
@@ -33,3 +33,11 @@ join a b = bitOr a b
 -- station i alone; no station, where no mask holds i
 unfoldable pub only : ℕ → ℕ
 only i = cond (ltb i 64) (2 ^ i) 0
+
+-- the stations below n
+unfoldable pub all : ℕ → ℕ
+all n = cond (ltb n 64) (2 ^ n - 1) (2 ^ 64 - 1)
+
+-- the stations of one set that are not in the other
+unfoldable pub minus : ℕ → ℕ → ℕ
+minus a b = bitXor a (bitAnd a b)

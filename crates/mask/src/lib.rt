@@ -45,3 +45,20 @@ pub fn only(i: u64) -> u64
     }
     1 << i
 }
+
+// The stations below n.
+pub fn all(n: u64) -> u64
+    ensures { λ r. ⌜ r ≡ set.all n ⌝ }
+{
+    if n >= 64 {
+        return 18_446_744_073_709_551_615;
+    }
+    (1 << n) - 1
+}
+
+// The stations of one set that are not in the other.
+pub fn minus(a: u64, b: u64) -> u64
+    ensures { λ r. ⌜ r ≡ set.minus a b ⌝ }
+{
+    a ^ (a & b)
+}

@@ -1,0 +1,33 @@
+-- `flight::pack` makes `packed` of the names, which fits a word. Assumes nothing.
+use mathlib.Core.Path.{refl}
+use Rattle.flight.specs.Message.{packed}
+use borrow.Author.Needs.{needs}
+use Rattle.flight.proofs.pack.Statement.{statement}
+use Rattle.flight.proofs.pack.Tie as tie
+
+mul-result : tie.Need-mul-result
+mul-result c = search needs
+
+mul-result-2 : tie.Need-mul-result-2
+mul-result-2 c = search needs
+
+add-result : tie.Need-add-result
+add-result c = search needs
+
+mul-result-3 : tie.Need-mul-result-3
+mul-result-3 c = search needs
+
+add-result-2 : tie.Need-add-result-2
+add-result-2 c = search needs
+
+add-result-3 : tie.Need-add-result-3
+add-result-3 c = search needs
+
+returns : tie.Need-returns
+unfolding packed
+returns c = refl
+
+pub pack-spec : {M : Type 1} → statement M
+pack-spec =
+    tie.close
+    (tie.spec mul-result mul-result-2 add-result mul-result-3 add-result-2 add-result-3 returns)

@@ -1,0 +1,13 @@
+-- `station::bad_numbers` answers `badNumbers`. Assumes nothing.
+use mathlib.Core.Path.{_≡_, refl, ap, sym, _∙_}
+use borrow.Author.Tests.{not-true, not-false, ne-eqb, eq-eqb, lt-ltb, le-ltb}
+use Rattle.station.specs.Record.{badNumbers}
+use Rattle.station.proofs.bad_numbers.Statement.{statement}
+use Rattle.station.proofs.bad_numbers.Tie as tie
+
+returns : tie.Need-returns
+unfolding badNumbers
+returns c = refl
+
+pub bad-numbers-spec : {M : Type 1} → statement M
+bad-numbers-spec = tie.close (tie.spec returns)

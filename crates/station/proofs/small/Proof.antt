@@ -1,0 +1,13 @@
+-- `station::small` answers `small`. Assumes nothing.
+use mathlib.Core.Path.{_≡_, refl, ap, sym, _∙_}
+use borrow.Author.Tests.{not-true, not-false, ne-eqb, eq-eqb, lt-ltb, le-ltb}
+use Rattle.station.specs.Limits.{small}
+use Rattle.station.proofs.small.Statement.{statement}
+use Rattle.station.proofs.small.Tie as tie
+
+returns : tie.Need-returns
+unfolding small
+returns c = refl
+
+pub small-spec : {M : Type 1} → statement M
+small-spec = tie.close (tie.spec returns)
