@@ -1,5 +1,14 @@
--- The run of a whole line: its state, its events, its record rules, and document 01's rehearsal computed on them.
+-- The run of a whole line: its state, its record rules and its events; that every event keeps the record valid, what an
+-- accepted event moves, and how many messages the history leaves in flight; and document 01's rehearsal computed on it.
 pub mod Run
 pub mod Record
 pub mod Event
+pub mod Valid
+pub mod Allowed
+pub mod ValidSteps
+pub mod Moves
+pub mod History
+pub mod Held
+pub mod HeldLaws
+pub mod Question
 pub mod Rehearsal

@@ -1,0 +1,383 @@
+-- The number in flight is the messages sent to sound stations less the messages delivered, both counted from the run's
+-- history: what was sent is read off the stations' states before and after each event, and never off the flight. Each event
+-- keeps the count, so every history does.
+use Prim.Native.Nat.{ℕ, zero, suc, _+_, _*_, _<_, _≤_}
+use mathlib.Core.Bool.{Bool, true, false, _&&_, _||_, not}
+use mathlib.Core.List.{List, [], _∷_, _++_}
+use mathlib.Core.Path.{_≡_, refl, ap, sym, _∙_}
+use native.Mathlib.Omega.{arith}
+use native.Mathlib.Decide.{decLt}
+use lib.Dec.{ltb, leb, eqb}
+use lib.ListN.{length, getD, length-append}
+use borrow.Author.Tests.{ltb-true, eqb-true, eqb-false, ne-eqb, eq-eqb, lt-leb, not-false}
+use Rattle.clock.specs.Limits.{maxStations}
+use Rattle.clock.specs.Pick.{pick}
+use Rattle.clock.specs.Tests.{neither, both}
+use Rattle.mask.specs.Mask.{has, one, countTo, count}
+use Rattle.mask.specs.Laws.{count-below, has-minus, has-all, has-only}
+use Rattle.setup.specs.declared.Plan.{Plan}
+use Rattle.setup.specs.Setup.{planAnswer}
+use Rattle.setup.specs.Laws.{planned}
+use Rattle.station.specs.declared.Station.{Station}
+use Rattle.station.specs.declared.Outcome.{Outcome}
+use Rattle.station.specs.Station.{waits, markFor, still, complete, start, settle, gather, hear, sign, move, lands, advance}
+use Rattle.station.specs.Record.{badNumbers, badSigned, badGathered, badStation}
+use Rattle.flight.specs.declared.Message.{Message}
+use Rattle.flight.specs.Message.{sentTo, indexOf, without}
+use Rattle.flight.specs.Members.{length-without, length-sentTo}
+use Rattle.event.specs.declared.Event.{Event}
+use Rattle.event.specs.declared.Event.the-variants.{Advance, Deliver, Send}
+use Rattle.line.specs.Run.{Run, sound, stationAt, fresh, others, readyOf, relayOf, sends}
+use Rattle.line.specs.Record.{badFaulty, badStationAt}
+use Rattle.line.specs.Event.{namesOf, eventAnswer, step}
+use Rattle.line.specs.Moves.{step-refused, accepted, valid-record, Ends, deliver-ends, send-ends, heard, heardSends, messageNamed, advanceAt, advanceSends}
+use Rattle.line.specs.Moves.{advance-station, advance-flight, deliver-there, deliver-is, deliver-station, deliver-other, send-is, send-station, send-other}
+
+-- ---- histories
+
+-- an event and its increments
+pub record Entry : Type 0 where
+  pub event : Event
+  pub increments : List ℕ
+
+-- the run after a history, each event met by the run that the ones before it left
+unfoldable pub played : Run → List Entry → Run
+played r [] = r
+played r (e ∷ es) = played (step r (e .event) (e .increments)) es
+
+-- a second and a thousandth event are treated as the first is
+pub played-on : (r : Run) (es : List Entry) (e : Entry) → played r (es ++ (e ∷ [])) ≡ step (played r es) (e .event) (e .increments)
+unfolding played
+played-on r [] e = refl
+played-on r (a ∷ es) e = played-on (step r (a .event) (a .increments)) es e
+
+-- ---- what was sent and delivered
+
+-- how many other sound stations there are than i
+abbrev pub othersOf : Plan → ℕ → ℕ
+othersOf plan i = countTo maxStations (has (others plan i))
+
+-- the others of a planned line are its sound stations but i
+pub others-are : (plan : Plan) (i j : ℕ) → planAnswer plan ≡ 0 → i < plan .stations
+    → has (others plan i) j ≡ (sound plan j && not (eqb i j))
+unfolding others sound
+others-are plan i j e h =
+    let p = planned plan e in
+    let w : plan .stations ≤ 63 = omega (arith, p .stations .1) in
+    rw (has-minus, has-minus, has-all (plan .stations) j w, has-only i j (omega arith)) refl
+
+-- how many messages a station sends to each other: a ready where its last signed round changed, a relay where its round did
+unfoldable pub told : Station → Station → ℕ
+told before after = one (not (eqb (before .signed) (after .signed))) + one (not (eqb (before .round) (after .round)))
+
+-- f of each number below k, summed
+unfoldable pub sumTo : ℕ → (ℕ → ℕ) → ℕ
+sumTo zero f = 0
+sumTo (suc k) f = sumTo k f + f k
+
+-- the messages that station i sent to sound stations between two states of its own
+abbrev pub sentFrom : Plan → ℕ → Station → Station → ℕ
+sentFrom plan i before after = othersOf plan i * told before after
+
+-- between two states of the line
+abbrev pub sentAt : Run → Run → ℕ → ℕ
+sentAt before after i = sentFrom (before .plan) i (stationAt before i) (stationAt after i)
+
+-- and all stations together
+unfoldable pub sentBy : Run → Run → ℕ
+sentBy before after = sumTo (before .plan .stations) (sentAt before after)
+
+-- one message for a deliver
+unfoldable pub taken : Event → ℕ
+taken (Advance d) = 0
+taken (Deliver sender recipient round kind) = 1
+taken (Send sender recipient round signers) = 0
+
+-- that is accepted
+unfoldable pub deliveredBy : Run → Event → List ℕ → ℕ
+deliveredBy r e increments = pick (eqb (eventAnswer r e increments) 0) (taken e) 0
+
+-- messages sent to sound stations over a history
+unfoldable pub sentIn : Run → List Entry → ℕ
+sentIn r [] = 0
+sentIn r (e ∷ es) = sentBy r (step r (e .event) (e .increments)) + sentIn (step r (e .event) (e .increments)) es
+
+-- messages delivered over a history
+unfoldable pub deliveredIn : Run → List Entry → ℕ
+deliveredIn r [] = 0
+deliveredIn r (e ∷ es) = deliveredBy r (e .event) (e .increments) + deliveredIn (step r (e .event) (e .increments)) es
+
+-- ---- sums
+
+-- a sum depends on nothing but what is summed
+sum-same : (k : ℕ) (f g : ℕ → ℕ) → ((i : ℕ) → i < k → f i ≡ g i) → sumTo k f ≡ sumTo k g
+unfolding sumTo
+sum-same zero f g e = refl
+sum-same (suc k) f g e = omega (arith, sum-same k f g (λ i h. e i (omega arith)), e k (omega arith))
+
+-- nothing summed
+sum-none : (k : ℕ) (f : ℕ → ℕ) → ((i : ℕ) → i < k → f i ≡ 0) → sumTo k f ≡ 0
+unfolding sumTo
+sum-none zero f e = refl
+sum-none (suc k) f e = omega (arith, sum-none k f (λ i h. e i (omega arith)), e k (omega arith))
+
+-- only one number counts
+sum-one : (k : ℕ) (f : ℕ → ℕ) (p : ℕ) → p < k → ((i : ℕ) → (i ≡ p → ⊥) → f i ≡ 0) → sumTo k f ≡ f p
+unfolding sumTo
+sum-one zero f p h e = absurd (omega arith)
+sum-one (suc k) f p h e = elim (decLt p k) [
+  | yes b ↦ omega (arith, sum-one k f p b e, e k (λ q. omega arith))
+  | no b ↦ let q : p ≡ k = omega arith in rw q (omega (arith, sum-none k f (λ i l. e i (λ z. omega arith))))
+]
+
+-- ---- a station tells the others exactly what changed
+
+-- its outcome has a ready where its last signed round changed and a relay where its round did
+record Tells (s : Station) (o : Outcome) : Type 0 where
+  ready : o .ready ≡ not (eqb (s .signed) (o .station .signed))
+  relay : eqb (o .relay) 0 ≡ eqb (s .round) (o .station .round)
+
+-- so it sends as many messages as the change tells
+length-sends : (plan : Plan) (time i k : ℕ) (s : Station) (o : Outcome) → Tells s o
+    → length (sends plan time i k o) ≡ sentFrom plan i s (o .station)
+unfolding sends told
+length-sends plan time i k s o t =
+    let a = t .ready in
+    let b = t .relay in
+    rw (a, b, length-append)
+    (go (length-sentTo (readyOf time i k) maxStations (others plan i)) (length-sentTo (relayOf time i k (o .relay)) maxStations (others plan i))
+    (not (eqb (s .signed) (o .station .signed))) (eqb (s .round) (o .station .round)))
+  where
+    readies : List Message
+    readies = sentTo (readyOf time i k) maxStations (others plan i)
+
+    relays : List Message
+    relays = sentTo (relayOf time i k (o .relay)) maxStations (others plan i)
+
+    go : length readies ≡ othersOf plan i → length relays ≡ othersOf plan i
+        → (x y : Bool) → length (pick x readies []) + length (pick y [] relays) ≡ othersOf plan i * (one x + one (not y))
+    go a b true true = omega arith
+    go a b true false = omega arith
+    go a b false true = omega arith
+    go a b false false = omega arith
+
+-- a station that does nothing tells nothing
+told-none : (s : Station) → told s s ≡ 0
+unfolding told
+told-none s = rw (eq-eqb (s .signed) (s .signed) refl, eq-eqb (s .round) (s .round) refl) refl
+
+-- no station is in the empty set
+count-none : (mask : ℕ) → mask ≡ 0 → count mask ≡ 0
+unfolding countTo
+count-none mask e = rw e (count-below 0 0 (omega arith) (omega arith))
+
+-- a station that settles as g, from a state of the same round, relays where its round changed: what starts a round is not empty
+module _ (ready : Bool) (plan : Plan) (s g : Station) (round : g .round ≡ s .round)
+    (signed : ready ≡ not (eqb (s .signed) (g .signed))) where
+  settle-tells : Tells s (settle ready plan g)
+  unfolding settle complete start
+  settle-tells = go (complete plan g) refl
+    where
+      go : (b : Bool) → complete plan g ≡ b
+          → Tells s (pick b (record { station = start plan g; ready = ready; relay = g .gathered }) (record { station = g; ready = ready; relay = 0 }))
+      go true e = record {
+        ready = signed;
+        relay = ne-eqb (g .gathered) 0 (λ z. omega (arith, ltb-true (plan .faults) (count (g .gathered)) e, count-none (g .gathered) z))
+            ∙ sym (ne-eqb (s .round) (waits g) (λ z. omega arith));
+      }
+      go false e = record { ready = signed; relay = sym (eq-eqb (s .round) (g .round) (sym round)) }
+
+-- one that does nothing
+still-tells : (s t : Station) → t .round ≡ s .round → t .signed ≡ s .signed → Tells s (still t)
+unfolding still
+still-tells s t round signed = record {
+  ready = rw (eq-eqb (s .signed) (t .signed) (sym signed)) refl;
+  relay = sym (eq-eqb (s .round) (t .round) (sym round));
+}
+
+-- one that hears
+hear-tells : (plan : Plan) (round signers : ℕ) (s : Station) → Tells s (hear plan round signers s)
+unfolding hear gather
+hear-tells plan round signers s = go (eqb round (waits s))
+  where
+    go : (b : Bool) → Tells s (pick b (settle false plan (gather signers s)) (still s))
+    go true = settle-tells false plan s (gather signers s) refl (rw (eq-eqb (s .signed) (s .signed) refl) refl)
+    go false = still-tells s s refl refl
+
+-- one that advances, where it has not signed the round it lands on
+advance-tells : (plan : Plan) (i by : ℕ) (s : Station) → (lands plan by s ≡ true → s .signed ≡ waits s → ⊥)
+    → Tells s (advance plan i by s)
+unfolding advance sign move
+advance-tells plan i by s new = go (lands plan by s) refl
+  where
+    go : (b : Bool) → lands plan by s ≡ b → Tells s (pick b (sign plan i (move by s)) (still (move by s)))
+    go true e = settle-tells true plan s _ refl (rw (ne-eqb (s .signed) (waits s) (new e)) refl)
+    go false e = still-tells s (move by s) refl refl
+
+-- a faulty station has signed nothing
+faulty-signed : (s : Station) → badFaulty s ≡ false → s .signed ≡ 0
+unfolding badFaulty
+faulty-signed s e =
+    let a = neither _ (not (eqb (s .gathered) 0)) e in
+    let b = neither (not (eqb (s .round) 0) || not (eqb (s .reading .0) 0)) (not (eqb (s .signed) 0)) (a .0) in
+    eqb-true _ _ (not-false _ (b .1))
+
+-- a sound one below its mark has not signed the round it waits for
+sound-signed : (plan : Plan) (s : Station) → badStation plan s ≡ false → s .reading .0 < markFor plan s
+    → s .signed < waits s
+unfolding badStation badSigned
+sound-signed plan s e h =
+    let a = neither _ (badGathered plan s) e in
+    let b = neither (badNumbers s) (badSigned plan s) (a .0) in
+    let c = not-false (pick (leb (markFor plan s) (s .reading .0)) (eqb (s .signed) (waits s)) (ltb (s .signed) (waits s))) (b .1) in
+    ltb-true (s .signed) (waits s) (rw (lt-leb (markFor plan s) (s .reading .0) h) at c)
+
+-- so a station of a valid record that lands on a mark has not signed its round
+lands-new : (r : Run) (i by : ℕ) → badStationAt r i ≡ false → lands (r .plan) by (stationAt r i) ≡ true
+    → stationAt r i .signed ≡ waits (stationAt r i) → ⊥
+unfolding badStationAt lands
+lands-new r i by e l q = go (has (r .plan .faulty) i) e
+  where
+    under : stationAt r i .reading .0 < markFor (r .plan) (stationAt r i)
+    under = ltb-true _ _ (both (ltb (stationAt r i .reading .0) (markFor (r .plan) (stationAt r i))) _ l .0)
+
+    go : (b : Bool) → pick b (badFaulty (stationAt r i)) (badStation (r .plan) (stationAt r i)) ≡ false → ⊥
+    go true f = omega (arith, faulty-signed (stationAt r i) f)
+    go false f = omega (arith, sound-signed (r .plan) (stationAt r i) f under)
+
+-- ---- each event keeps the count
+
+-- what the first k stations send in an advance
+length-advance : (r : Run) (d : ℕ) (increments : List ℕ) (k : ℕ) → ((i : ℕ) → i < k → badStationAt r i ≡ false)
+    → length (advanceSends r d increments k)
+    ≡ sumTo k (λ i. sentFrom (r .plan) i (stationAt r i) (advanceAt r increments i .station))
+unfolding advanceSends sumTo
+length-advance r d increments zero each = refl
+length-advance r d increments (suc k) each =
+    let new = lands-new r k (getD increments k 0) (each k (omega arith)) in
+    let t = advance-tells (r .plan) k (getD increments k 0) (stationAt r k) new in
+    rw length-append
+    (omega (
+      arith,
+      length-advance r d increments k (λ i h. each i (omega arith)),
+      length-sends (r .plan) (r .time + d) k (waits (stationAt r k)) (stationAt r k) (advanceAt r increments k) t,
+    ))
+
+-- an accepted advance adds what the stations sent
+count-advance : (r : Run) (d : ℕ) (increments : List ℕ) → eventAnswer r (Advance d) increments ≡ 0
+    → length (step r (Advance d) increments .flight) ≡ length (r .flight) + sentBy r (step r (Advance d) increments)
+unfolding sentBy
+count-advance r d increments h =
+    let v = valid-record r (accepted r (Advance d) increments h .valid) in
+    let sent = length-advance r d increments (r .plan .stations) (v .each) in
+    let same = sum-same (r .plan .stations) _ (sentAt r (step r (Advance d) increments)) changed in
+    rw (advance-flight r d increments h, length-append) (omega (arith, sent, same))
+  where
+    changed : (i : ℕ) → i < r .plan .stations
+        → sentFrom (r .plan) i (stationAt r i) (advanceAt r increments i .station) ≡ sentAt r (step r (Advance d) increments) i
+    changed i b = rw (advance-station r d increments h i b) refl
+
+-- only the recipient has heard, so only it has sent
+count-heard : (r after : Run) (recipient round signers : ℕ) → recipient < r .plan .stations
+    → stationAt after recipient ≡ heard r recipient round signers .station
+    → ((i : ℕ) → (i ≡ recipient → ⊥) → stationAt after i ≡ stationAt r i)
+    → length (heardSends r recipient round signers) ≡ sentBy r after
+unfolding sentBy
+count-heard r after recipient round signers h here rest =
+    length-sends (r .plan) (r .time) recipient _ (stationAt r recipient) (heard r recipient round signers)
+    (hear-tells (r .plan) round signers (stationAt r recipient))
+    ∙ ap (sentFrom (r .plan) recipient (stationAt r recipient)) (sym here)
+    ∙ sym (sum-one (r .plan .stations) (sentAt r after) recipient h none)
+  where
+    none : (i : ℕ) → (i ≡ recipient → ⊥) → sentAt r after i ≡ 0
+    none i ne = rw (rest i ne, told-none (stationAt r i)) (omega arith)
+
+-- an accepted deliver takes one message and adds what its recipient sent
+count-deliver : (r : Run) (sender recipient round kind : ℕ) (increments : List ℕ)
+    → eventAnswer r (Deliver sender recipient round kind) increments ≡ 0
+    → length (step r (Deliver sender recipient round kind) increments .flight) + 1
+    ≡ length (r .flight) + sentBy r (step r (Deliver sender recipient round kind) increments)
+count-deliver r sender recipient round kind increments h =
+    omega (arith, flight, sent, length-without at (r .flight), deliver-there r sender recipient round kind increments h)
+  where
+    at : ℕ
+    at = indexOf (namesOf sender recipient round kind) (r .flight)
+
+    signers : ℕ
+    signers = messageNamed r sender recipient round kind .signers
+
+    after : Run
+    after = step r (Deliver sender recipient round kind) increments
+
+    ends : Ends r sender recipient
+    ends = deliver-ends r sender recipient round kind increments (accepted r (Deliver sender recipient round kind) increments h)
+
+    flight : length (after .flight) ≡ length (without at (r .flight)) + length (heardSends r recipient round signers)
+    flight = rw (deliver-is r sender recipient round kind increments h, length-append) refl
+
+    sent : length (heardSends r recipient round signers) ≡ sentBy r after
+    sent =
+        count-heard r after recipient round signers (ends .station) (deliver-station r sender recipient round kind increments h)
+        (deliver-other r sender recipient round kind increments h)
+
+-- an accepted faulty send adds what its recipient sent
+count-send : (r : Run) (sender recipient round signers : ℕ) (increments : List ℕ)
+    → eventAnswer r (Send sender recipient round signers) increments ≡ 0
+    → length (step r (Send sender recipient round signers) increments .flight)
+    ≡ length (r .flight) + sentBy r (step r (Send sender recipient round signers) increments)
+count-send r sender recipient round signers increments h = omega (arith, flight, sent)
+  where
+    after : Run
+    after = step r (Send sender recipient round signers) increments
+
+    ends : Ends r sender recipient
+    ends = send-ends r sender recipient round signers increments (accepted r (Send sender recipient round signers) increments h)
+
+    flight : length (after .flight) ≡ length (r .flight) + length (heardSends r recipient round signers)
+    flight = rw (send-is r sender recipient round signers increments h, length-append) refl
+
+    sent : length (heardSends r recipient round signers) ≡ sentBy r after
+    sent =
+        count-heard r after recipient round signers (ends .station) (send-station r sender recipient round signers increments h)
+        (send-other r sender recipient round signers increments h)
+
+-- so each accepted event keeps the count
+count-accepted : (r : Run) (e : Event) (increments : List ℕ) → eventAnswer r e increments ≡ 0
+    → length (step r e increments .flight) + taken e ≡ length (r .flight) + sentBy r (step r e increments)
+unfolding taken
+count-accepted r (Advance d) increments h = omega (arith, count-advance r d increments h)
+count-accepted r (Deliver sender recipient round kind) increments h = count-deliver r sender recipient round kind increments h
+count-accepted r (Send sender recipient round signers) increments h =
+    omega (arith, count-send r sender recipient round signers increments h)
+
+-- a run that is left untouched sends nothing
+sent-none : (r : Run) → sentBy r r ≡ 0
+unfolding sentBy
+sent-none r = sum-none (r .plan .stations) (sentAt r r) (λ i h. rw (told-none (stationAt r i)) (omega arith))
+
+-- what is in flight after an event and what it delivered are what was in flight before it and what it sent
+pub count-step : (r : Run) (e : Event) (increments : List ℕ)
+    → length (step r e increments .flight) + deliveredBy r e increments ≡ length (r .flight) + sentBy r (step r e increments)
+unfolding deliveredBy
+count-step r e increments = go (eqb (eventAnswer r e increments) 0) refl
+  where
+    go : (b : Bool) → eqb (eventAnswer r e increments) 0 ≡ b
+        → length (step r e increments .flight) + pick b (taken e) 0 ≡ length (r .flight) + sentBy r (step r e increments)
+    go true h = count-accepted r e increments (eqb-true _ _ h)
+    go false h = rw (step-refused r e increments (eqb-false _ _ h)) (omega (arith, sent-none r))
+
+-- ---- every history keeps the count
+
+-- from any run
+pub count-played : (r : Run) (es : List Entry)
+    → length (played r es .flight) + deliveredIn r es ≡ length (r .flight) + sentIn r es
+unfolding played deliveredIn sentIn
+count-played r [] = refl
+count-played r (e ∷ es) =
+    omega (arith, count-step r (e .event) (e .increments), count-played (step r (e .event) (e .increments)) es)
+
+-- and from a fresh one: the number in flight equals messages sent to sound stations less messages delivered
+pub history-count : (plan : Plan) (first : List ℕ) (es : List Entry)
+    → length (played (fresh plan first) es .flight) + deliveredIn (fresh plan first) es ≡ sentIn (fresh plan first) es
+unfolding fresh
+history-count plan first es = omega (arith, count-played (fresh plan first) es)

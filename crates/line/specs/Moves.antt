@@ -1,0 +1,567 @@
+-- What an accepted event does to the run, document 01, "Events": every station, the time and the flight afterwards. An event
+-- that is answered 0 has passed each test of the table, so the facts that its effect needs are read off the answer.
+use Prim.Native.Nat.{ℕ, zero, suc, _+_, _*_, _-_, _<_, _≤_}
+use mathlib.Core.Bool.{Bool, true, false, _||_, not}
+use mathlib.Core.List.{List, [], _∷_, _++_, append-assoc, append-nil}
+use mathlib.Core.Path.{_≡_, refl, ap, sym, _∙_}
+use native.Mathlib.Omega.{arith}
+use native.Mathlib.Decide.{decLt}
+use lib.Dec.{ltb, leb, eqb}
+use lib.ListN.{length, getD, set, length-set}
+use lib.Seq.{getD-set-same, getD-set-other, set-getD}
+use borrow.Author.Tests.{leb-false, eqb-true, eqb-false, ne-eqb, lt-ltb, le-ltb, eq-eqb, not-false}
+use Rattle.clock.specs.Limits.{maxStations, maxTime, maxFlight, maxAdvance}
+use Rattle.clock.specs.Pick.{pick, refuse-none}
+use Rattle.clock.specs.Tests.{outside, inside, neither}
+use Rattle.mask.specs.Mask.{has, count, join, only}
+use Rattle.setup.specs.declared.Plan.{Plan}
+use Rattle.setup.specs.Setup.{planAnswer}
+use Rattle.station.specs.declared.Station.{Station}
+use Rattle.station.specs.declared.Outcome.{Outcome}
+use Rattle.station.specs.Station.{waits, markFor, still, complete, start, settle, gather, hear, sign, move, lands, advance}
+use Rattle.flight.specs.declared.Message.{Message}
+use Rattle.flight.specs.declared.Names.{Names}
+use Rattle.flight.specs.Message.{named, noMessage, indexOf, without, sentTo, sameNames, someOf, twins}
+use Rattle.flight.specs.Message.{namesOf as messageNames}
+use Rattle.flight.specs.Members.{All, noMember, all-append, all-of, all-map, all-sentTo, length-without, without-at}
+use Rattle.flight.specs.Members.{Agree, named-agree, agree-named, differs, indexOf-most, indexOf-named}
+use Rattle.flight.specs.Apart.{Apart, other-turn, twins-apart}
+use Rattle.event.specs.declared.Event.{Event}
+use Rattle.event.specs.declared.Event.the-variants.{Advance, Deliver, Send}
+use Rattle.event.specs.Event.{badAdvance, badEnds, barred}
+use Rattle.line.specs.Run.{Run, noStation, stationAt, others, readyOf, relayOf, sends, become, signAt, hearAt, movedAll, moves, landsAt, signTo}
+use Rattle.line.specs.Record.{badStationAt, someBadStation, badMessage, badRecord}
+use Rattle.line.specs.Event.{namesOf, takeOut, effect, eventRules, stepAnswer, eventAnswer, step}
+
+-- ---- accepted and refused
+
+-- an accepted event has its effect
+pub step-accepted : (r : Run) (e : Event) (increments : List ℕ) → eventAnswer r e increments ≡ 0
+    → step r e increments ≡ effect r e increments
+unfolding step
+step-accepted r e increments h = rw h refl
+
+-- a refused one leaves the run untouched
+pub step-refused : (r : Run) (e : Event) (increments : List ℕ) → (eventAnswer r e increments ≡ 0 → ⊥)
+    → step r e increments ≡ r
+unfolding step
+step-refused r e increments h = rw (ne-eqb (eventAnswer r e increments) 0 h) refl
+
+-- an accepted event met a valid record, is not barred by 11, and breaks none of the rules 12 to 19
+pub record Accepted (r : Run) (e : Event) (increments : List ℕ) : Type 0 where
+  pub valid : badRecord r ≡ false
+  pub allowed : barred (r .plan .stations) (r .plan .faulty) e increments ≡ false
+  pub rules : eventRules r e increments ≡ 0
+
+-- what is answered 0 is accepted
+pub accepted : (r : Run) (e : Event) (increments : List ℕ) → eventAnswer r e increments ≡ 0 → Accepted r e increments
+unfolding eventAnswer stepAnswer
+accepted r e increments h =
+    let ten = refuse-none (badRecord r) 9 _ h in
+    let eleven = refuse-none (barred (r .plan .stations) (r .plan .faulty) e increments) 10 _ (ten .1) in
+    record { valid = ten .0; allowed = eleven .0; rules = eleven .1 }
+
+-- a valid record has n stations, each of which keeps its rules, and no two messages that agree in all four names
+pub record Valid (r : Run) : Type 0 where
+  pub plan : planAnswer (r .plan) ≡ 0
+  pub stations : length (r .stations) ≡ r .plan .stations
+  pub each : (i : ℕ) → i < r .plan .stations → badStationAt r i ≡ false
+  pub apart : twins (r .flight) ≡ false
+
+-- where none of the first k breaks its rules, each of them keeps them
+each-station : (r : Run) (k i : ℕ) → someBadStation r k ≡ false → i < k → badStationAt r i ≡ false
+unfolding someBadStation
+each-station r zero i e h = absurd (omega arith)
+each-station r (suc k) i e h =
+    let n = neither (someBadStation r k) (badStationAt r k) e in
+    elim (decLt i k) [
+      | yes b ↦ each-station r k i (n .0) b
+      | no b ↦ let s : i ≡ k = omega arith in rw s (n .1)
+    ]
+
+-- a record that 10 does not refuse is valid
+pub valid-record : (r : Run) → badRecord r ≡ false → Valid r
+unfolding badRecord
+valid-record r e =
+    let a = neither _ (twins (r .flight)) e in
+    let b = neither _ (someOf (badMessage r) (r .flight)) (a .0) in
+    let c = neither _ (ltb maxFlight (length (r .flight))) (b .0) in
+    let d = neither _ (someBadStation r (r .plan .stations)) (c .0) in
+    let t = neither _ (ltb maxTime (r .time)) (d .0) in
+    let l = neither (not (eqb (planAnswer (r .plan)) 0)) (not (eqb (length (r .stations)) (r .plan .stations))) (t .0) in
+    record {
+      plan = eqb-true _ _ (not-false _ (l .0));
+      stations = eqb-true _ _ (not-false _ (l .1));
+      each = λ i h. each-station r (r .plan .stations) i (d .1) h;
+      apart = a .1;
+    }
+
+-- an accepted advance has a d of at least 1 and n increments
+pub advance-way : (r : Run) (d : ℕ) (increments : List ℕ) → Accepted r (Advance d) increments
+    → (1 ≤ d) × (length increments ≡ r .plan .stations)
+unfolding barred badAdvance
+advance-way r d increments h =
+    let a = neither (outside 1 maxAdvance d || not (eqb (length increments) (r .plan .stations))) _ (h .allowed) in
+    let b = neither (outside 1 maxAdvance d) (not (eqb (length increments) (r .plan .stations))) (a .0) in
+    (inside 1 maxAdvance d (b .0) .0, eqb-true _ _ (not-false _ (b .1)))
+
+-- a message's recipient is a station, and not its sender
+pub record Ends (r : Run) (sender recipient : ℕ) : Type 0 where
+  pub station : recipient < r .plan .stations
+  pub other : sender ≡ recipient → ⊥
+
+-- by rule 11
+ends-of : (r : Run) (sender recipient round : ℕ) → badEnds (r .plan .stations) (r .plan .faulty) sender recipient round ≡ false
+    → Ends r sender recipient
+unfolding badEnds
+ends-of r sender recipient round e =
+    let a = neither _ _ e in
+    let b = neither _ (has (r .plan .faulty) recipient) (a .0) in
+    let c = neither _ (eqb sender recipient) (b .0) in
+    let d = neither (leb (r .plan .stations) sender) (leb (r .plan .stations) recipient) (c .0) in
+    record { station = leb-false _ _ (d .1); other = eqb-false _ _ (c .1) }
+
+-- of an accepted deliver
+pub deliver-ends : (r : Run) (sender recipient round kind : ℕ) (increments : List ℕ)
+    → Accepted r (Deliver sender recipient round kind) increments → Ends r sender recipient
+unfolding barred
+deliver-ends r sender recipient round kind increments h = ends-of r sender recipient round (neither _ (ltb 1 kind) (h .allowed) .0)
+
+-- of an accepted faulty send
+pub send-ends : (r : Run) (sender recipient round signers : ℕ) (increments : List ℕ)
+    → Accepted r (Send sender recipient round signers) increments → Ends r sender recipient
+unfolding barred
+send-ends r sender recipient round signers increments h =
+    ends-of r sender recipient round (neither _ (eqb signers 0) (neither _ _ (h .allowed) .0) .0)
+
+-- ---- advance
+
+-- each clock has gone on by its increment
+moved-at : (ss : List Station) (increments : List ℕ) (i : ℕ) → i < length ss → i < length increments
+    → getD (movedAll ss increments) i noStation ≡ move (getD increments i 0) (getD ss i noStation)
+unfolding movedAll
+moved-at [] increments i h l = absurd (omega arith)
+moved-at (s ∷ ss) [] i h l = absurd (omega arith)
+moved-at (s ∷ ss) (x ∷ xs) zero h l = refl
+moved-at (s ∷ ss) (x ∷ xs) (suc i) h l = moved-at ss xs i (omega arith) (omega arith)
+
+-- and there are as many stations
+length-moved : (ss : List Station) (increments : List ℕ) → length (movedAll ss increments) ≡ length ss
+unfolding movedAll
+length-moved [] increments = refl
+length-moved (s ∷ ss) [] = refl
+length-moved (s ∷ ss) (x ∷ xs) = ap suc (length-moved ss xs)
+
+-- what station i does in an advance: its clock goes on, and it signs where that brings it up to the mark
+abbrev pub advanceAt : Run → List ℕ → ℕ → Outcome
+advanceAt r increments i = advance (r .plan) i (getD increments i 0) (stationAt r i)
+
+-- what the first k stations send in an advance, in order
+unfoldable pub advanceSends : Run → ℕ → List ℕ → ℕ → List Message
+advanceSends r d increments zero = []
+advanceSends r d increments (suc k) =
+    advanceSends r d increments k ++ sends (r .plan) (r .time + d) k (waits (stationAt r k)) (advanceAt r increments k)
+
+-- the clocks and the time have moved, and the first k stations have signed where they landed
+record Signed (r : Run) (d : ℕ) (increments : List ℕ) (k : ℕ) (after : Run) : Type 0 where
+  plan : after .plan ≡ r .plan
+  time : after .time ≡ r .time + d
+  stations : length (after .stations) ≡ length (r .stations)
+  done : (i : ℕ) → i < k → stationAt after i ≡ advanceAt r increments i .station
+  next : (i : ℕ) → k ≤ i → i < length (r .stations) → stationAt after i ≡ move (getD increments i 0) (stationAt r i)
+  flight : after .flight ≡ r .flight ++ advanceSends r d increments k
+
+module _ (r : Run) (d : ℕ) (increments : List ℕ) (all : length increments ≡ length (r .stations)) where
+  -- before any has signed
+  signed-none : Signed r d increments 0 (moves d increments r)
+  unfolding moves advanceSends
+  signed-none = record {
+    plan = refl;
+    time = refl;
+    stations = length-moved (r .stations) increments;
+    done = λ i h. absurd (omega arith);
+    next = λ i l h. moved-at (r .stations) increments i h (omega arith);
+    flight = sym (append-nil (r .flight));
+  }
+
+  module _ (k : ℕ) (h : k < length (r .stations)) (after : Run) (s : Signed r d increments k after) where
+    -- station k has done what an advance has it do
+    signed-become : (w : ℕ) (o : Outcome) → w ≡ waits (stationAt r k) → o ≡ advanceAt r increments k
+        → Signed r d increments (suc k) (become k w o after)
+    unfolding become advanceSends
+    signed-become w o ew eo = record {
+      plan = s .plan;
+      time = s .time;
+      stations = length-set (after .stations) k (o .station) ∙ s .stations;
+      done = λ i l. elim (decLt i k) [
+        | yes b ↦ getD-set-other (after .stations) k i (o .station) noStation (λ q. omega arith) ∙ s .done i b
+        | no b ↦
+            let q : i ≡ k = omega arith in
+            rw (q, ← eo) (getD-set-same (after .stations) k (o .station) noStation (omega (arith, s .stations)))
+      ];
+      next = λ i l b. getD-set-other (after .stations) k i (o .station) noStation (λ q. omega arith) ∙ s .next i (omega arith) b;
+      flight =
+          let p = s .plan in
+          let t = s .time in
+          let f = s .flight in
+          rw (p, t, f, ew, eo) (append-assoc (r .flight) (advanceSends r d increments k) _);
+    }
+
+    -- station k lands and signs
+    signed-lands : landsAt r increments k ≡ true → Signed r d increments (suc k) (signAt k after)
+    unfolding landsAt signAt advance move
+    signed-lands e =
+        let here = s .next k (omega arith) h in
+        let p = s .plan in
+        signed-become (waits (stationAt after k)) (sign (after .plan) k (stationAt after k)) (rw here refl) (rw (p, here, e) refl)
+
+    -- station k does not land
+    signed-goes : landsAt r increments k ≡ false → Signed r d increments (suc k) after
+    unfolding landsAt advanceSends advance still sends
+    signed-goes e = record {
+      plan = s .plan;
+      time = s .time;
+      stations = s .stations;
+      done = λ i l. elim (decLt i k) [
+        | yes b ↦ s .done i b
+        | no b ↦ let q : i ≡ k = omega arith in rw (q, e) (s .next k (omega arith) h)
+      ];
+      next = λ i l b. s .next i (omega arith) b;
+      flight = rw (e, append-nil (advanceSends r d increments k)) (s .flight);
+    }
+
+  -- the first k have signed where they landed
+  signed-to : (k : ℕ) → k ≤ length (r .stations) → Signed r d increments k (signTo k r increments (moves d increments r))
+  unfolding signTo
+  signed-to zero h = signed-none
+  signed-to (suc k) h = go (landsAt r increments k) refl (signed-to k (omega arith))
+    where
+      go : {after : Run} (b : Bool) → landsAt r increments k ≡ b → Signed r d increments k after
+          → Signed r d increments (suc k) (pick b (signAt k after) after)
+      go true e s = signed-lands k (omega arith) _ s e
+      go false e s = signed-goes k (omega arith) _ s e
+
+-- a station that settles keeps its reading, or starts at k·P + A
+reading-settle : (ready : Bool) (plan : Plan) (s : Station)
+    → settle ready plan s .station .reading .0
+    ≡ pick (eqb (settle ready plan s .station .round) (s .round)) (s .reading .0) (markFor plan s + plan .step)
+unfolding settle start
+reading-settle ready plan s = go (complete plan s)
+  where
+    outcome : Bool → Outcome
+    outcome b =
+        pick b (record { station = start plan s; ready = ready; relay = s .gathered })
+        (record { station = s; ready = ready; relay = 0 })
+
+    go : (b : Bool) → outcome b .station .reading .0
+        ≡ pick (eqb (outcome b .station .round) (s .round)) (s .reading .0) (markFor plan s + plan .step)
+    go true = rw (ne-eqb (waits s) (s .round) (λ q. omega arith)) refl
+    go false = rw (eq-eqb (s .round) (s .round) refl) refl
+
+-- and so does one that advances, but for its increment
+reading-advance : (plan : Plan) (i by : ℕ) (s : Station)
+    → advance plan i by s .station .reading .0
+    ≡ pick (eqb (advance plan i by s .station .round) (s .round)) (s .reading .0 + by) (markFor plan s + plan .step)
+unfolding advance sign move still
+reading-advance plan i by s = go (lands plan by s)
+  where
+    outcome : Bool → Outcome
+    outcome b = pick b (sign plan i (move by s)) (still (move by s))
+
+    go : (b : Bool) → outcome b .station .reading .0
+        ≡ pick (eqb (outcome b .station .round) (s .round)) (s .reading .0 + by) (markFor plan s + plan .step)
+    go true = reading-settle true plan _
+    go false = rw (eq-eqb (s .round) (s .round) refl) refl
+
+module _ (r : Run) (d : ℕ) (increments : List ℕ) (h : eventAnswer r (Advance d) increments ≡ 0) where
+  -- all have signed where they landed
+  advanced : Signed r d increments (r .plan .stations) (step r (Advance d) increments)
+  unfolding effect
+  advanced =
+      let a = accepted r (Advance d) increments h in
+      let v = valid-record r (a .valid) in
+      let n = advance-way r d increments a .1 in
+      rw (step-accepted r (Advance d) increments h) (signed-to r d increments (omega arith) (r .plan .stations) (omega arith))
+
+  -- time moves by d
+  pub advance-time : step r (Advance d) increments .time ≡ r .time + d
+  advance-time = advanced .time
+
+  -- which is later
+  pub advance-later : r .time < step r (Advance d) increments .time
+  advance-later = omega (arith, advance-time, advance-way r d increments (accepted r (Advance d) increments h) .0)
+
+  -- station i afterwards: its clock has gone on, and it has signed where that brought it up to the mark
+  pub advance-station : (i : ℕ) → i < r .plan .stations
+      → stationAt (step r (Advance d) increments) i ≡ advanceAt r increments i .station
+  advance-station = advanced .done
+
+  -- its reading moves by its increment or, where it starts in that event, to k·P + A
+  pub advance-reading : (i : ℕ) → i < r .plan .stations
+      → stationAt (step r (Advance d) increments) i .reading .0
+      ≡ pick (eqb (stationAt (step r (Advance d) increments) i .round) (stationAt r i .round))
+      (stationAt r i .reading .0 + getD increments i 0)
+      (markFor (r .plan) (stationAt r i) + r .plan .step)
+  advance-reading i l = rw (advance-station i l) (reading-advance (r .plan) i (getD increments i 0) (stationAt r i))
+
+  -- one that does not land on its mark goes on
+  pub advance-goes : (i : ℕ) → i < r .plan .stations → landsAt r increments i ≡ false
+      → stationAt (step r (Advance d) increments) i ≡ move (getD increments i 0) (stationAt r i)
+  unfolding landsAt advance still
+  advance-goes i l e = rw (advance-station i l, e) refl
+
+  -- one that lands signs the waited round and counts its own signature
+  pub advance-signs : (i : ℕ) → i < r .plan .stations → landsAt r increments i ≡ true
+      → count (join (stationAt r i .gathered) (only i)) ≤ r .plan .faults
+      → stationAt (step r (Advance d) increments) i
+      ≡ record {
+        round = stationAt r i .round;
+        reading = record { 0 = stationAt r i .reading .0 + getD increments i 0 };
+        signed = waits (stationAt r i);
+        gathered = join (stationAt r i .gathered) (only i);
+      }
+  unfolding landsAt advance sign move settle complete
+  advance-signs i l e f =
+      rw (advance-station i l, e, le-ltb (r .plan .faults) (count (join (stationAt r i .gathered) (only i))) f) refl
+
+  -- and where that completes f + 1 it starts that round in the same event
+  pub advance-starts : (i : ℕ) → i < r .plan .stations → landsAt r increments i ≡ true
+      → r .plan .faults < count (join (stationAt r i .gathered) (only i))
+      → stationAt (step r (Advance d) increments) i
+      ≡ record {
+        round = waits (stationAt r i);
+        reading = record { 0 = markFor (r .plan) (stationAt r i) + r .plan .step };
+        signed = waits (stationAt r i);
+        gathered = 0;
+      }
+  unfolding landsAt advance sign move settle complete start
+  advance-starts i l e f =
+      rw (advance-station i l, e, lt-ltb (r .plan .faults) (count (join (stationAt r i .gathered) (only i))) f) refl
+
+  -- there are as many stations as before, under the same plan
+  pub advance-plan : (step r (Advance d) increments .plan ≡ r .plan)
+      × (length (step r (Advance d) increments .stations) ≡ length (r .stations))
+  advance-plan = (advanced .plan, advanced .stations)
+
+  -- and behind the flight stands what the stations sent
+  pub advance-flight : step r (Advance d) increments .flight ≡ r .flight ++ advanceSends r d increments (r .plan .stations)
+  advance-flight = advanced .flight
+
+-- ---- hearing
+
+-- f + 1 distinct signatures of the waited round start it: its round is k, its reading k·P + A, its gathering empty
+pub hear-starts : (plan : Plan) (round signers : ℕ) (s : Station) → round ≡ waits s
+    → plan .faults < count (join (s .gathered) signers)
+    → hear plan round signers s .station ≡ start plan s
+unfolding hear settle complete gather start
+hear-starts plan round signers s e h =
+    rw (eq-eqb round (waits s) e, lt-ltb (plan .faults) (count (join (s .gathered) signers)) h) refl
+
+-- fewer are only gathered
+pub hear-gathers : (plan : Plan) (round signers : ℕ) (s : Station) → round ≡ waits s
+    → count (join (s .gathered) signers) ≤ plan .faults
+    → hear plan round signers s .station ≡ gather signers s
+unfolding hear settle complete gather
+hear-gathers plan round signers s e h =
+    rw (eq-eqb round (waits s) e, le-ltb (plan .faults) (count (join (s .gathered) signers)) h) refl
+
+-- and those of any other round are ignored
+pub hear-ignores : (plan : Plan) (round signers : ℕ) (s : Station) → (round ≡ waits s → ⊥) → hear plan round signers s ≡ still s
+unfolding hear
+hear-ignores plan round signers s h = rw (ne-eqb round (waits s) h) refl
+
+-- what a recipient does that hears these signatures
+abbrev pub heard : Run → ℕ → ℕ → ℕ → Outcome
+heard r recipient round signers = hear (r .plan) round signers (stationAt r recipient)
+
+-- and what it sends then
+abbrev pub heardSends : Run → ℕ → ℕ → ℕ → List Message
+heardSends r recipient round signers =
+    sends (r .plan) (r .time) recipient (waits (stationAt r recipient)) (heard r recipient round signers)
+
+-- the run after that, with this flight before it
+abbrev pub heardRun : Run → List Message → ℕ → ℕ → ℕ → Run
+heardRun r flight recipient round signers = record {
+  plan = r .plan;
+  time = r .time;
+  stations = set (r .stations) recipient (heard r recipient round signers .station);
+  flight = flight ++ heardSends r recipient round signers;
+}
+
+-- ---- deliver
+
+-- the message in flight with these names
+abbrev pub messageNamed : Run → ℕ → ℕ → ℕ → ℕ → Message
+messageNamed r sender recipient round kind =
+    getD (r .flight) (indexOf (namesOf sender recipient round kind) (r .flight)) noMessage
+
+-- what a station sends has it as its sender
+sends-sender : (plan : Plan) (time i k : ℕ) (o : Outcome) → All (λ m. m .sender ≡ i) (sends plan time i k o)
+unfolding sends
+sends-sender plan time i k o = all-append (ready (o .ready)) (relay (eqb (o .relay) 0))
+  where
+    ready : (b : Bool) → All (λ m. m .sender ≡ i) (pick b (sentTo (readyOf time i k) maxStations (others plan i)) [])
+    ready true = all-sentTo (readyOf time i k) maxStations (others plan i) (λ j l m. refl)
+    ready false = noMember
+
+    relay : (b : Bool) → All (λ m. m .sender ≡ i) (pick b [] (sentTo (relayOf time i k (o .relay)) maxStations (others plan i)))
+    relay true = noMember
+    relay false = all-sentTo (relayOf time i k (o .relay)) maxStations (others plan i) (λ j l m. refl)
+
+-- a message that differs in a name from one with these names does not have them
+other-names : (x : Names) (a b : Message) → named x a ≡ true → sameNames a b ≡ false → named x b ≡ false
+other-names x a b e f = differs x b same
+  where
+    same : Agree x b → ⊥
+    same g =
+        let m = named-agree x a e in
+        let t = agree-named (messageNames a) b (record {
+          sender = g .sender ∙ sym (m .sender);
+          recipient = g .recipient ∙ sym (m .recipient);
+          round = g .round ∙ sym (m .round);
+          kind = g .kind ∙ sym (m .kind);
+        }) in
+        let z : _≡_ {A = ℕ} 0 1 = cc in
+        omega arith
+
+-- the first message with these names taken out of a flight without twins, none that is left has them
+named-gone : (x : Names) (ms : List Message) (i : ℕ) → i ≡ indexOf x ms → i < length ms → twins ms ≡ false
+    → All (λ m. named x m ≡ false) (without i ms)
+unfolding Apart
+named-gone x ms i first h e = all-of (without i ms) noMessage (λ j l. left j (omega (arith, length-without i ms)))
+  where
+    here : named x (getD ms i noMessage) ≡ true
+    here = rw first (indexOf-named x ms noMessage (omega arith))
+
+    unlike : (p : ℕ) → p < length ms → (p ≡ i → ⊥) → named x (getD ms p noMessage) ≡ false
+    unlike p l ne = other-names x (getD ms i noMessage) (getD ms p noMessage) here (elim (decLt i p) [
+      | yes b ↦ twins-apart ms e i p b l
+      | no b ↦ other-turn _ _ (twins-apart ms e p i (omega (arith, ne)) h)
+    ])
+
+    left : (j : ℕ) → j < length ms - 1 → named x (getD (without i ms) j noMessage) ≡ false
+    left j l = rw (without-at i ms j noMessage l h) (go (eqb j i) refl)
+      where
+        go : (b : Bool) → eqb j i ≡ b → named x (pick b (getD ms (length ms - 1) noMessage) (getD ms j noMessage)) ≡ false
+        go true q = unlike (length ms - 1) (omega arith) (λ z. omega (arith, eqb-true j i q))
+        go false q = unlike j (omega arith) (eqb-false j i q)
+
+module _ (r : Run) (sender recipient round kind : ℕ) (increments : List ℕ)
+    (h : eventAnswer r (Deliver sender recipient round kind) increments ≡ 0) where
+  -- the message is in flight
+  pub deliver-there : indexOf (namesOf sender recipient round kind) (r .flight) < length (r .flight)
+  unfolding eventRules
+  deliver-there =
+      let a = accepted r (Deliver sender recipient round kind) increments h in
+      let e = refuse-none (eqb (indexOf (namesOf sender recipient round kind) (r .flight)) (length (r .flight))) 15 _ (a .rules) in
+      let ne : indexOf (namesOf sender recipient round kind) (r .flight) ≡ length (r .flight) → ⊥ = eqb-false _ _ (e .0) in
+      omega (arith, ne, indexOf-most (namesOf sender recipient round kind) (r .flight))
+
+  -- it leaves the flight, and its recipient hears it
+  pub deliver-is : step r (Deliver sender recipient round kind) increments
+      ≡ heardRun r (without (indexOf (namesOf sender recipient round kind) (r .flight)) (r .flight)) recipient round
+      (messageNamed r sender recipient round kind .signers)
+  unfolding effect takeOut hearAt become
+  deliver-is = step-accepted r (Deliver sender recipient round kind) increments h
+
+  -- its recipient is in the table
+  deliver-end : recipient < length (r .stations)
+  deliver-end =
+      let a = accepted r (Deliver sender recipient round kind) increments h in
+      omega (arith, deliver-ends r sender recipient round kind increments a .station, valid-record r (a .valid) .stations)
+
+  -- its recipient afterwards
+  pub deliver-station : stationAt (step r (Deliver sender recipient round kind) increments) recipient
+      ≡ heard r recipient round (messageNamed r sender recipient round kind .signers) .station
+  deliver-station = rw deliver-is (getD-set-same (r .stations) recipient _ noStation deliver-end)
+
+  -- every other station is as it was
+  pub deliver-other : (i : ℕ) → (i ≡ recipient → ⊥)
+      → stationAt (step r (Deliver sender recipient round kind) increments) i ≡ stationAt r i
+  deliver-other i ne =
+      let o = heard r recipient round (messageNamed r sender recipient round kind .signers) in
+      rw deliver-is (getD-set-other (r .stations) recipient i (o .station) noStation ne)
+
+  -- no message in flight has its names any more
+  pub deliver-gone : All (λ m. named (namesOf sender recipient round kind) m ≡ false)
+      (step r (Deliver sender recipient round kind) increments .flight)
+  deliver-gone =
+      let a = accepted r (Deliver sender recipient round kind) increments h in
+      let ends = deliver-ends r sender recipient round kind increments a in
+      rw deliver-is
+      (all-append (named-gone (namesOf sender recipient round kind) (r .flight) _ refl deliver-there (valid-record r (a .valid) .apart))
+      (all-map (λ m e. differs (namesOf sender recipient round kind) m (λ g. ends .other (sym (g .sender) ∙ e)))
+      (sends-sender (r .plan) (r .time) recipient _ _)))
+
+  -- with f + 1 distinct signatures of the waited round its recipient starts that round in the same event
+  pub deliver-starts : round ≡ waits (stationAt r recipient)
+      → r .plan .faults < count (join (stationAt r recipient .gathered) (messageNamed r sender recipient round kind .signers))
+      → stationAt (step r (Deliver sender recipient round kind) increments) recipient ≡ start (r .plan) (stationAt r recipient)
+  deliver-starts e l = deliver-station ∙ hear-starts (r .plan) round _ (stationAt r recipient) e l
+
+  -- with fewer it only gathers
+  pub deliver-gathers : round ≡ waits (stationAt r recipient)
+      → count (join (stationAt r recipient .gathered) (messageNamed r sender recipient round kind .signers)) ≤ r .plan .faults
+      → stationAt (step r (Deliver sender recipient round kind) increments) recipient
+      ≡ gather (messageNamed r sender recipient round kind .signers) (stationAt r recipient)
+  deliver-gathers e l = deliver-station ∙ hear-gathers (r .plan) round _ (stationAt r recipient) e l
+
+  -- a message of any other round is ignored
+  pub deliver-ignored : (round ≡ waits (stationAt r recipient) → ⊥)
+      → stationAt (step r (Deliver sender recipient round kind) increments) recipient ≡ stationAt r recipient
+  unfolding still
+  deliver-ignored ne =
+      deliver-station ∙ ap (λ (o : Outcome). o .station) (hear-ignores (r .plan) round _ (stationAt r recipient) ne)
+
+-- ---- faulty send
+
+module _ (r : Run) (sender recipient round signers : ℕ) (increments : List ℕ)
+    (h : eventAnswer r (Send sender recipient round signers) increments ≡ 0) where
+  -- its recipient hears it at once
+  pub send-is : step r (Send sender recipient round signers) increments ≡ heardRun r (r .flight) recipient round signers
+  unfolding effect hearAt become
+  send-is = step-accepted r (Send sender recipient round signers) increments h
+
+  -- its recipient is in the table
+  send-end : recipient < length (r .stations)
+  send-end =
+      let a = accepted r (Send sender recipient round signers) increments h in
+      omega (arith, send-ends r sender recipient round signers increments a .station, valid-record r (a .valid) .stations)
+
+  -- its recipient afterwards
+  pub send-station : stationAt (step r (Send sender recipient round signers) increments) recipient ≡ heard r recipient round signers .station
+  send-station = rw send-is (getD-set-same (r .stations) recipient _ noStation send-end)
+
+  -- every other station is as it was
+  pub send-other : (i : ℕ) → (i ≡ recipient → ⊥) → stationAt (step r (Send sender recipient round signers) increments) i ≡ stationAt r i
+  send-other i ne = rw send-is (getD-set-other (r .stations) recipient i (heard r recipient round signers .station) noStation ne)
+
+  -- with f + 1 distinct signatures of the waited round its recipient starts that round in the same event
+  pub send-starts : round ≡ waits (stationAt r recipient) → r .plan .faults < count (join (stationAt r recipient .gathered) signers)
+      → stationAt (step r (Send sender recipient round signers) increments) recipient ≡ start (r .plan) (stationAt r recipient)
+  send-starts e l = send-station ∙ hear-starts (r .plan) round signers (stationAt r recipient) e l
+
+  -- with fewer it only gathers
+  pub send-gathers : round ≡ waits (stationAt r recipient) → count (join (stationAt r recipient .gathered) signers) ≤ r .plan .faults
+      → stationAt (step r (Send sender recipient round signers) increments) recipient ≡ gather signers (stationAt r recipient)
+  send-gathers e l = send-station ∙ hear-gathers (r .plan) round signers (stationAt r recipient) e l
+
+  -- one of any other round changes nothing
+  pub send-ignored : (round ≡ waits (stationAt r recipient) → ⊥) → step r (Send sender recipient round signers) increments ≡ r
+  unfolding still sends
+  send-ignored ne =
+      rw (send-is, hear-ignores (r .plan) round signers (stationAt r recipient) ne)
+      (λ i. record {
+        plan = r .plan;
+        time = r .time;
+        stations = set-getD (r .stations) recipient noStation i;
+        flight = append-nil (r .flight) i;
+      })
+
+-- ---- a start
+
+-- a start's round is the waited one and its reading k·P + A, where k is that round
+pub start-shows : (plan : Plan) (s : Station)
+    → (start plan s .round ≡ waits s) × (start plan s .reading .0 ≡ waits s * plan .period + plan .step)
+unfolding start
+start-shows plan s = (refl, refl)
