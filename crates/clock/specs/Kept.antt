@@ -1,7 +1,7 @@
 -- The clock's law between any two moments, as sums: it holds over one advance that keeps the drift rule, and it adds up
 -- over advances. Whoever speaks of a stretch of a clock uses this and not the rule's text.
 use Prim.Native.Nat.{ℕ, _+_, _*_, _≤_}
-use mathlib.Core.Bool.{true, _&&_}
+use mathlib.Core.Bool.{true}
 use mathlib.Core.Path.{_≡_}
 use native.Mathlib.Omega.{arith}
 use lib.Dec.{leb}

@@ -1,19 +1,17 @@
 -- The three events of document 01: each is a list of small steps, and is refused by the first number of the table that
 -- applies.
 use Prim.Native.Nat.{ℕ, zero, suc, _+_}
-use mathlib.Core.Bool.{Bool, true, false, _&&_, _||_, not}
-use mathlib.Core.List.{List, [], _∷_}
-use lib.Dec.{ltb, leb, eqb}
+use mathlib.Core.Bool.{Bool, false, _&&_, _||_, not}
+use mathlib.Core.List.{List}
+use lib.Dec.{ltb, eqb}
 use lib.ListN.{length, getD}
 use Rattle.clock.specs.Limits.{maxTime, maxFlight}
 use Rattle.clock.specs.Drift.{keeps}
 use Rattle.clock.specs.Pick.{pick, refuse}
 use Rattle.mask.specs.Mask.{has}
-use Rattle.setup.specs.declared.Plan.{Plan}
 use Rattle.station.specs.Station.{waits, passes}
 use Rattle.station.specs.Record.{exceeds}
 use Rattle.flight.specs.declared.Names.{Names}
-use Rattle.flight.specs.declared.Message.{Message}
 use Rattle.flight.specs.Message.{noMessage, indexOf, without, overdue}
 use Rattle.event.specs.declared.Event.{Event}
 use Rattle.event.specs.declared.Event.the-variants.{Advance, Deliver, Send}

@@ -1,7 +1,7 @@
 -- The run that the code holds, place by place: a rule about the stations or about one message does not look at the words.
 use Prim.Native.Nat.{ℕ, zero, suc, _+_, _*_, _≤_, _<_}
 use mathlib.Core.Bool.{Bool, true, false, _||_, not}
-use mathlib.Core.List.{List, [], _∷_, _++_}
+use mathlib.Core.List.{List, [], _∷_}
 use mathlib.Core.Path.{_≡_, refl, ap, ap₂, sym, _∙_}
 use native.Mathlib.Numerals.{add-one}
 use native.Mathlib.Decide.{decLt}

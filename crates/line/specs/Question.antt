@@ -1,6 +1,6 @@
 -- The three questions of document 01: 10, then 31, then 32; refused, the values are zero.
 use Prim.Native.Nat.{ℕ}
-use mathlib.Core.Bool.{Bool, _||_, not}
+use mathlib.Core.Bool.{_||_, not}
 use mathlib.Core.List.{List}
 use mathlib.Core.Path.{_≡_, ap, ap₂, _∙_}
 use lib.Dec.{eqb}
@@ -14,7 +14,7 @@ use Rattle.line.specs.declared.Line.{Line}
 use Rattle.line.specs.declared.Shown.{Shown}
 use Rattle.line.specs.declared.Led.{Led}
 use Rattle.line.specs.declared.InFlight.{InFlight}
-use Rattle.line.specs.Run.{Run, sound, stationAt}
+use Rattle.line.specs.Run.{sound, stationAt}
 use Rattle.line.specs.Held.{runOf, badLine}
 
 -- the reading and round of a station: 31 where it is faulty or at n or above

@@ -1,8 +1,7 @@
 -- The record rules of a run, answer 10 of document 01.
 use Prim.Native.Nat.{ℕ, zero, suc}
-use mathlib.Core.Bool.{Bool, true, false, _&&_, _||_, not}
-use mathlib.Core.List.{List, [], _∷_}
-use lib.Dec.{ltb, leb, eqb}
+use mathlib.Core.Bool.{Bool, false, _||_, not}
+use lib.Dec.{ltb, eqb}
 use lib.ListN.{length}
 use Rattle.clock.specs.Limits.{maxTime, maxRound, maxFlight}
 use Rattle.clock.specs.Pick.{pick}

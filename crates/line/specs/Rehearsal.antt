@@ -1,9 +1,7 @@
 -- Document 01's rehearsal, "One rehearsal in full", computed on the definitions: each of its eight lines.
-use Prim.Native.Nat.{ℕ, zero, suc}
-use mathlib.Core.Bool.{Bool, true, false}
+use Prim.Native.Nat.{ℕ}
 use mathlib.Core.List.{List, [], _∷_}
 use mathlib.Core.Path.{_≡_, refl}
-use lib.ListN.{length}
 use Rattle.clock.specs.Drift.{keeps}
 use Rattle.clock.specs.Tests.{some}
 use Rattle.mask.specs.Mask.{has, countTo, count, below, join, only, all, minus}

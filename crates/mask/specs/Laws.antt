@@ -4,14 +4,14 @@ use Prim.Native.Nat.{ℕ, zero, suc, _+_, _*_, _/_, _%_, _^_, _<_, _≤_, _-_}
 use mathlib.Core.Bool.{Bool, true, false, _&&_, _||_, not, cond}
 use mathlib.Core.Path.{_≡_, refl, ap, ap₂, sym, _∙_}
 use native.Mathlib.Omega.{arith}
-use native.Mathlib.Nat.{div-eq-of-lt, pow-succ', div-div-eq-div-mul, div-one, zero-add, add-zero, lt-of-lt-of-le, div-lt-iff-lt-mul, lt-of-le-of-lt, mul-div-cancel, pow-suc, mul-mod-left, le-div-iff-mul-le}
+use native.Mathlib.Nat.{div-eq-of-lt, pow-succ', div-div-eq-div-mul, div-one, add-zero, lt-of-lt-of-le, div-lt-iff-lt-mul, lt-of-le-of-lt, mul-div-cancel, pow-suc, mul-mod-left, le-div-iff-mul-le}
 use native.Mathlib.Decide.{decLt}
 use lib.Dec.{ltb, eqb, eqb·zero-suc, eqb·suc-zero, eqb·suc-suc}
 use lib.Bits.{bitAnd, bitOr, bitXor, and-shr, or-shr, xor-shr, and-mod, or-mod, xor-mod, and-le-l, or-lt, xor-lt}
 use lib.Count.{ones, ones-step}
 use lib.Pow.{pow-mono, pow-pos, pow-lt, shr-shr, shr-le, ones-lt, ones-split, high}
-use borrow.Author.Tests.{ltb-true, lt-ltb, le-ltb, eqb-true, ne-eqb}
-use Rattle.mask.specs.Mask.{has, one, countTo, count, below, join, only, all, minus}
+use borrow.Author.Tests.{lt-ltb, le-ltb}
+use Rattle.mask.specs.Mask.{has, one, countTo, count, join, only, all, minus}
 
 -- ---- counting
 

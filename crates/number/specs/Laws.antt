@@ -4,7 +4,7 @@ use Prim.Native.Nat.{ℕ, zero, suc, _+_, _*_, _-_, _/_, _%_, _^_, _<_, _≤_}
 use mathlib.Core.Bool.{Bool, true, false}
 use mathlib.Core.List.{List, [], _∷_, _++_, append-assoc, append-nil}
 use mathlib.Core.Path.{_≡_, refl, ap, ap₂, sym, _∙_}
-use native.Mathlib.Nat.{mul-le-mul, mul-le-mul-left, mul-le-mul-right, pow-suc, one-le-pow, mul-assoc, mul-comm, add-zero, div-lt-iff-lt-mul}
+use native.Mathlib.Nat.{mul-le-mul-left, mul-le-mul-right, pow-suc, one-le-pow, mul-assoc, mul-comm, add-zero, div-lt-iff-lt-mul}
 use native.Mathlib.Numerals.{add-one}
 use native.Mathlib.Decide.{decLt}
 use native.Mathlib.Omega.{arith}
@@ -13,8 +13,7 @@ use lib.Dec.{ltb, leb}
 use lib.ListN.{length, getD, take, drop, set, replicate, length-set, length-append, length-take, length-drop, take-append-drop}
 use lib.Seq.{paste-suc, take-suc-set, take-at, drop-at, take-suc, drop-drop, length-take-le}
 use Rattle.clock.specs.Pick.{pick}
-use Rattle.number.specs.declared.Number.{Number}
-use Rattle.number.specs.declared.Number.the-variants.{Value, Refused}
+use Rattle.number.specs.declared.Number.the-variants.{Refused}
 use Rattle.number.specs.Number.{ends, numberFrom, groups, numberBytes, bytesOf, laid, room, wrote, buffer}
 use Rattle.number.specs.declared.Written.the-variants as written
 

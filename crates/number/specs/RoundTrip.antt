@@ -1,20 +1,16 @@
 -- A number's round trip, both ways: what is written reads back as the same number, to the place behind it; and the bytes
 -- that read as a number are the bytes that it is written with. Both by induction on the bytes that may come before the
 -- tenth.
-use Prim.Native.Nat.{ℕ, zero, suc, _+_, _*_, _-_, _/_, _%_, _^_, _<_, _≤_}
-use mathlib.Core.Bool.{Bool, true, false, _&&_, not}
+use Prim.Native.Nat.{ℕ, zero, suc, _+_, _*_, _/_, _%_, _^_, _<_, _≤_}
 use mathlib.Core.List.{List, [], _∷_, _++_, append-assoc}
 use mathlib.Core.Path.{_≡_, refl, ap, ap₂, sym, _∙_}
 use native.Mathlib.Nat.{pow-suc, div-lt-iff-lt-mul, div-add-mod', mul-assoc, mul-comm, add-mul, one-le-pow}
 use native.Mathlib.Numerals.{add-one}
-use native.Mathlib.Decide.{decLt, decLe, ℕ-discrete}
+use native.Mathlib.Decide.{decLt, ℕ-discrete}
 use native.Mathlib.Omega.{arith}
-use lib.Dec.{ltb, leb, eqb}
-use lib.ListN.{length, getD, take, drop, length-append}
+use lib.ListN.{length, getD, drop, length-append}
 use lib.Seq.{getD-append-seam, drop-cons}
-use borrow.Author.Tests.{lt-ltb, le-ltb, lt-leb, le-leb, eq-eqb, ne-eqb, eqb-true}
-use Rattle.clock.specs.Pick.{pick}
-use Rattle.number.specs.declared.Number.{Number}
+use borrow.Author.Tests.{lt-ltb, le-ltb, lt-leb, le-leb, eq-eqb, ne-eqb}
 use Rattle.number.specs.declared.Number.the-variants.{Value, Refused}
 use Rattle.number.specs.Number.{ends, numberFrom, readNumber, groups, numberBytes}
 use Rattle.number.specs.Laws.{groups-last, groups-on}

@@ -1,8 +1,7 @@
 -- Setups and events as numbers, document 01, "Scripts": what reading one at a place gives.
-use Prim.Native.Nat.{ℕ, zero, suc, _+_, _-_}
-use mathlib.Core.Bool.{Bool}
+use Prim.Native.Nat.{ℕ, zero, suc, _-_}
 use mathlib.Core.List.{List, [], _∷_, _++_}
-use lib.Dec.{ltb, leb, eqb}
+use lib.Dec.{eqb}
 use lib.ListN.{length, getD, drop, replicate}
 use Rattle.clock.specs.Limits.{maxStations}
 use Rattle.clock.specs.Pick.{pick}

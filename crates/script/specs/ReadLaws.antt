@@ -1,8 +1,7 @@
 -- Laws of reading several numbers: what a loop that reads them one by one has so far, and that it ends with them all.
 use Prim.Native.Nat.{ℕ, zero, suc, _+_, _*_, _%_, _-_, _<_, _≤_}
-use mathlib.Core.List.{List, [], _∷_, _++_, append-assoc, append-nil}
+use mathlib.Core.List.{List, [], _∷_, _++_, append-nil}
 use mathlib.Core.Path.{_≡_, refl, ap, ap₂, sym, _∙_}
-use native.Mathlib.Numerals.{add-one}
 use native.Mathlib.Omega.{arith}
 use mathlib.Core.Bool.{Bool, true, false, _&&_, not}
 use lib.Dec.{ltb, leb, eqb}
@@ -14,7 +13,7 @@ use Rattle.number.specs.declared.Number.{Number}
 use Rattle.number.specs.declared.Number.the-variants.{Value, Refused}
 use Rattle.script.specs.declared.read.Numbers.{Numbers}
 use Rattle.number.specs.Number.{ends, numberFrom, readNumber}
-use Rattle.script.specs.Read.{onNumber, Many, many, stopped, andMany, readMany, padded, asNumbers, planOf, Setup, setup, noSetup, withFirst, withPlan, setupFrom, readSetup, unread, asSetup, Happening, event, noEvent, advanceFrom, noneRead, asEvent}
+use Rattle.script.specs.Read.{onNumber, Many, many, stopped, andMany, readMany, padded, asNumbers, planOf, setup, noSetup, withFirst, withPlan, setupFrom, readSetup, unread, asSetup, Happening, event, noEvent, advanceFrom, noneRead, asEvent}
 use Rattle.script.specs.declared.read.EventRead.{EventRead}
 use Rattle.event.specs.declared.Event.{Event}
 use Rattle.event.specs.declared.Event.the-variants.{Advance, Deliver, Send}

@@ -5,18 +5,17 @@ use Prim.Native.Nat.{ℕ, zero, suc, _+_, _-_, _^_, _<_, _≤_}
 use mathlib.Core.Bool.{Bool, true, false, _||_, not}
 use mathlib.Core.List.{List, [], _∷_, _++_, append-assoc, append-nil}
 use mathlib.Core.Path.{_≡_, refl, ap, ap₂, sym, subst, _∙_}
-use native.Mathlib.Decide.{decLt, ℕ-discrete}
 use native.Mathlib.Omega.{arith}
-use lib.Dec.{ltb, leb, eqb}
+use lib.Dec.{leb, eqb}
 use lib.ListN.{length, getD, take, drop, length-append, length-drop, take-append-drop, drop-of-length-le}
 use lib.Seq.{drop-drop, drop-append-seam, length-take-le}
-use borrow.Author.Tests.{lt-leb, le-leb, leb-true, leb-false, eqb-true, eqb-false, eq-eqb, ne-eqb, not-false}
+use borrow.Author.Tests.{lt-leb, le-leb, leb-true, eqb-true, not-false}
 use Rattle.clock.specs.Limits.{maxStations, maxAdvance}
 use Rattle.clock.specs.Pick.{pick}
 use Rattle.clock.specs.Tests.{outside, neither, not-outside}
 use Rattle.setup.specs.declared.Plan.{Plan}
 use Rattle.setup.specs.Setup.{setupAnswer}
-use Rattle.setup.specs.Laws.{Planned, planned, accepted}
+use Rattle.setup.specs.Laws.{planned, accepted}
 use Rattle.event.specs.declared.Event.{Event}
 use Rattle.event.specs.declared.Event.the-variants.{Advance, Deliver, Send}
 use Rattle.event.specs.Event.{barred, badAdvance}
@@ -24,10 +23,10 @@ use Rattle.number.specs.declared.Number.{Number}
 use Rattle.number.specs.declared.Number.the-variants.{Value, Refused}
 use Rattle.number.specs.Number.{readNumber, numberBytes, bytesOf}
 use Rattle.number.specs.Laws.{number-length, bytes-append, rows-length}
-use Rattle.number.specs.RoundTrip.{number-back, Numbered, number-again}
+use Rattle.number.specs.RoundTrip.{number-back, number-again}
 use Rattle.script.specs.Read.{onNumber, Many, many, stopped, andMany, readMany, planOf, Setup, setup, noSetup, withFirst, withPlan, setupFrom, readSetup, Happening, event, noEvent, withIncrements, deliverFrom, sendFrom, advanceFrom, eventFrom, readEvent}
 use Rattle.script.specs.Write.{planNumbers, setupNumbers, eventNumbers}
-use Rattle.script.specs.Script.{Entry, Script, entriesBytes, scriptBytes, Entries, through, torn, andEntry, onEvent, readEntries, Reading, whole, broken, withEntries, onSetup, readScript}
+use Rattle.script.specs.Script.{Entry, Script, entriesBytes, scriptBytes, Entries, through, torn, andEntry, onEvent, readEntries, whole, withEntries, onSetup, readScript}
 
 -- ---- what stands at a place
 

@@ -7,7 +7,7 @@ use lib.Dec.{eqb}
 use borrow.Author.Tests.{eq-eqb, ne-eqb}
 use Rattle.clock.specs.Pick.{pick, refuse, orElse}
 use Rattle.setup.specs.declared.Plan.{Plan}
-use Rattle.setup.specs.Setup.{planAnswer, setupAnswer}
+use Rattle.setup.specs.Setup.{planAnswer}
 use Rattle.event.specs.declared.Event.{Event}
 use Rattle.event.specs.declared.Event.the-variants.{Advance, Deliver, Send}
 use Rattle.event.specs.Event.{barred}

@@ -1,13 +1,12 @@
 -- How each rule of a station is met case by case, as the code comes to it.
-use Prim.Native.Nat.{ℕ, _+_, _*_, _<_, _≤_}
-use mathlib.Core.Bool.{Bool, true, false, _&&_, _||_, not}
-use mathlib.Core.Path.{_≡_, refl, ap, sym, _∙_}
+use Prim.Native.Nat.{ℕ, _+_, _<_, _≤_}
+use mathlib.Core.Bool.{Bool, true, false, _||_, not}
+use mathlib.Core.Path.{_≡_, ap, sym, _∙_}
 use native.Mathlib.Decide.{decLe}
 use native.Mathlib.Omega.{arith}
 use lib.Dec.{ltb, leb, eqb}
-use borrow.Author.Tests.{lt-ltb, le-ltb, lt-leb, le-leb, eq-eqb, ne-eqb, ltb-false, eqb-true, not-false, not-true}
-use Rattle.clock.specs.Limits.{maxRound, maxReading, maxPeriod, maxStep, maxIncrement, last}
-use Rattle.clock.specs.Pick.{pick, refuse}
+use borrow.Author.Tests.{lt-ltb, le-ltb, lt-leb, le-leb, eq-eqb, ne-eqb, ltb-false, eqb-true, not-false}
+use Rattle.clock.specs.Limits.{maxRound, maxReading, maxPeriod, maxStep}
 use Rattle.clock.specs.Tests.{neither}
 use Rattle.clock.specs.Time.{later}
 use Rattle.clock.specs.declared.Reading.{Reading}
@@ -17,10 +16,9 @@ use Rattle.setup.specs.Setup.{planAnswer}
 use Rattle.setup.specs.Laws.{planned}
 use Rattle.station.specs.declared.Station.{Station}
 use Rattle.station.specs.declared.Outcome.{Outcome}
-use Rattle.station.specs.declared.Board.{Board}
-use Rattle.station.specs.Station.{waits, markFor, still, complete, start, settle, gather, hear, sign, move, lands, passes, advance}
+use Rattle.station.specs.Station.{waits, markFor, still, complete, start, settle, gather, hear, sign, move, lands, advance}
 use Rattle.station.specs.Limits.{Small, mark-most, Steady}
-use Rattle.station.specs.Record.{badNumbers, badSigned, badGathered, badStation, exceeds, moveAnswer, pastLimits, badBoard, answered}
+use Rattle.station.specs.Record.{badNumbers, badSigned, badGathered, badStation, pastLimits, badBoard, answered}
 
 -- an accepted plan is within its limits
 pub plan-limits : (plan : Plan) → planAnswer plan ≡ 0 → pastLimits plan ≡ false

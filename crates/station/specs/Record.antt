@@ -1,6 +1,6 @@
 -- The rules of a sound station's record, document 01, "Record rules", and the answers of a board's two doors.
-use Prim.Native.Nat.{ℕ, _+_, _*_}
-use mathlib.Core.Bool.{Bool, true, false, _&&_, _||_, not}
+use Prim.Native.Nat.{ℕ, _+_}
+use mathlib.Core.Bool.{Bool, _&&_, _||_, not}
 use lib.Dec.{ltb, leb, eqb}
 use Rattle.clock.specs.Limits.{maxRound, maxReading, maxIncrement, maxPeriod, maxStep}
 use Rattle.clock.specs.Pick.{pick, refuse}
@@ -11,7 +11,7 @@ use Rattle.setup.specs.Setup.{planAnswer}
 use Rattle.station.specs.declared.Station.{Station}
 use Rattle.station.specs.declared.Outcome.{Outcome}
 use Rattle.station.specs.declared.Board.{Board}
-use Rattle.station.specs.Station.{waits, markFor, still, hear, passes, advance}
+use Rattle.station.specs.Station.{waits, markFor, still, passes}
 
 -- round, reading and last signed round within their limits
 unfoldable pub badNumbers : Station → Bool

@@ -2,7 +2,7 @@
 -- and relays what it then holds.
 use Prim.Native.Nat.{ℕ, _+_, _*_}
 use mathlib.Core.Bool.{Bool, true, false, _&&_}
-use lib.Dec.{ltb, leb, eqb}
+use lib.Dec.{ltb, eqb}
 use Rattle.clock.specs.Pick.{pick}
 use Rattle.mask.specs.Mask.{count, join, only}
 use Rattle.setup.specs.declared.Plan.{Plan}

@@ -1,6 +1,6 @@
 -- The values that document 01, "Values on each side", marks (p): one line each, by computation on the definitions.
 use Prim.Native.Nat.{ℕ}
-use mathlib.Core.List.{List, [], _∷_}
+use mathlib.Core.List.{[], _∷_}
 use mathlib.Core.Path.{_≡_, refl}
 use lib.ListN.{replicate}
 use Rattle.number.specs.declared.Number.the-variants.{Refused}

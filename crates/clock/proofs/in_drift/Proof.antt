@@ -3,7 +3,7 @@
 use borrow.Author.Needs.{needs}
 use borrow.Author.Tests.{le-leb, lt-leb}
 use native.Mathlib.Omega.{arith}
-use Rattle.clock.specs.Limits.{maxDrift, maxAdvance, maxIncrement}
+use Rattle.clock.specs.Limits.{maxAdvance, maxIncrement}
 use Rattle.clock.specs.Drift.{inDrift, keeps}
 use Rattle.clock.specs.Fits.{fits-mul}
 use Rattle.clock.proofs.in_drift.Statement.{statement}

@@ -1,5 +1,4 @@
 -- `line::bad_content` answers `badContent`, from what `outside` and `below` answer. Assumes nothing.
-use mathlib.Core.Path.{_≡_, refl, ap, sym, _∙_}
 use Rattle.line.specs.Record.{badContent}
 use borrow.Author.Needs.{needs}
 use Rattle.line.proofs.bad_content.Statement.{statement}

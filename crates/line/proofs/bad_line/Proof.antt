@@ -1,8 +1,8 @@
 -- `line::bad_line` answers `badLine`: at each `return` the tests that led there say which rule it is. Assumes nothing.
-use Prim.Native.Nat.{ℕ, _*_}
+use Prim.Native.Nat.{_*_}
 use lib.ListN.{length}
-use mathlib.Core.Bool.{Bool, true, false}
-use mathlib.Core.Path.{_≡_, refl, sym, _∙_}
+use mathlib.Core.Bool.{true}
+use mathlib.Core.Path.{_≡_, sym, _∙_}
 use borrow.Author.Tests.{eq-eqb, ne-eqb, lt-ltb, le-ltb, le-leb}
 use denote.Ref.{now}
 use Rattle.setup.specs.Laws.{planned}

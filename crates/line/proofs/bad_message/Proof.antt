@@ -1,5 +1,4 @@
 -- `line::bad_message` answers `badMessage`: three tests. Assumes nothing.
-use mathlib.Core.Path.{_≡_, refl, ap, sym, _∙_}
 use Rattle.line.specs.Record.{badMessage}
 use Rattle.line.specs.Held.{runOf}
 use borrow.Author.Needs.{needs}

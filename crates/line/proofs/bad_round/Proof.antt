@@ -1,5 +1,4 @@
 -- `line::bad_round` answers `badRound`, by the kind. Assumes nothing.
-use mathlib.Core.Path.{_≡_, refl, ap, sym, _∙_}
 use Rattle.line.specs.Record.{badRound}
 use Rattle.line.specs.Held.{runOf}
 use borrow.Author.Tests.{eq-eqb, ne-eqb}

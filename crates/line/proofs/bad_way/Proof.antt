@@ -1,5 +1,4 @@
 -- `line::bad_way` answers `badWay`, from what `sound` answers of both ends. Assumes nothing.
-use mathlib.Core.Path.{_≡_, refl, ap, sym, _∙_}
 use Rattle.line.specs.Record.{badWay}
 use Rattle.line.specs.Held.{runOf}
 use borrow.Author.Needs.{needs}

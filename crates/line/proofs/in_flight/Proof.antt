@@ -1,6 +1,5 @@
 -- `line::in_flight` answers `inFlight`: 10, else how many messages the words hold. Assumes nothing.
-use mathlib.Core.Path.{_≡_, refl, ap, sym, _∙_}
-use borrow.Author.Tests.{not-true, not-false, eq-eqb, ne-eqb}
+use mathlib.Core.Path.{sym, _∙_}
 use denote.Ref.{now}
 use Rattle.flight.specs.Coding.{length-decode}
 use Rattle.line.specs.Held.{runOf}

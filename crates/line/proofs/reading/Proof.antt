@@ -1,6 +1,6 @@
 -- `line::reading` answers `shown`: 10, then 31, else the station's reading and round. Assumes nothing.
-use mathlib.Core.Path.{_≡_, refl, ap, sym, _∙_}
-use borrow.Author.Tests.{not-true, not-false, eq-eqb, ne-eqb}
+use mathlib.Core.Path.{sym, _∙_}
+use borrow.Author.Tests.{not-true, not-false}
 use native.Mathlib.Omega.{arith}
 use Rattle.line.specs.Held.{runOf}
 use Rattle.line.specs.HeldLaws.{line-planned}

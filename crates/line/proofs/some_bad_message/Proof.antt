@@ -1,6 +1,6 @@
 -- `line::some_bad_message` says whether some message is bad: after i turns `bad` says it of the first i. The measure is how
 -- many are left. Assumes nothing.
-use mathlib.Core.Path.{_≡_, refl, ap, sym, _∙_}
+use mathlib.Core.Path.{_≡_, refl, ap, _∙_}
 use Prim.Native.Nat.{ℕ, _-_, _≤_}
 use denote.Ref.{now}
 use Rattle.flight.specs.Message.{decode, someOf}

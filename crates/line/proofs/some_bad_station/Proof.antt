@@ -1,6 +1,6 @@
 -- `line::some_bad_station` says whether some station's record is bad: after i turns `bad` says it of the first i. The measure
 -- is how many are left. Assumes nothing.
-use mathlib.Core.Path.{_≡_, refl, ap, sym, _∙_}
+use mathlib.Core.Path.{_≡_, ap, sym, _∙_}
 use Prim.Native.Nat.{_-_, _≤_}
 use Rattle.line.specs.Record.{someBadStation}
 use Rattle.line.specs.Held.{runOf}

@@ -1,5 +1,4 @@
 -- `line::sound` answers `sound`, from what `has` answers. Assumes nothing.
-use mathlib.Core.Path.{_≡_, refl, ap, sym, _∙_}
 use Rattle.line.specs.Run.{sound}
 use borrow.Author.Needs.{needs}
 use Rattle.line.proofs.sound.Statement.{statement}

@@ -1,5 +1,4 @@
 -- `line::station_at` answers the station at a place of the table, and nothing past the last. Assumes nothing.
-use mathlib.Core.Path.{_≡_, refl, ap, sym, _∙_}
 use Rattle.line.specs.HeldLaws.{place-none, place-some}
 use borrow.Author.Needs.{needs}
 use Rattle.line.proofs.station_at.Statement.{statement}

@@ -1,5 +1,5 @@
 -- `mask::below` answers `below`: a mask is a word, and a quotient by 2 ^ n is 0 just below 2 ^ n. Assumes nothing.
-use Prim.Native.Nat.{ℕ, _<_, _≤_, _/_, _^_}
+use Prim.Native.Nat.{ℕ, _<_, _/_, _^_}
 use mathlib.Core.Path.{_≡_, sym, _∙_}
 use native.Mathlib.Nat.{lt-of-lt-of-le, div-eq-of-lt, div-lt-iff-lt-mul}
 use native.Mathlib.Decide.{decLt}

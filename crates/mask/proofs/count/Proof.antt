@@ -1,5 +1,4 @@
 -- `mask::count` answers `count`: the set digits of a word are its members. Assumes nothing.
-use native.Mathlib.Nat.{le-trans}
 use lib.Count.{ones-le}
 use Rattle.mask.specs.Mask.{count}
 use Rattle.mask.specs.Laws.{ones-count}

@@ -1,6 +1,6 @@
 -- `mask::only` answers `only`: a shift of 1 by less than 64 loses nothing. Assumes nothing.
-use mathlib.Core.Path.{_∙_, sym, ap}
-use native.Mathlib.Nat.{one-mul, mod-eq-of-lt}
+use mathlib.Core.Path.{_∙_}
+use native.Mathlib.Nat.{one-mul}
 use borrow.Author.Tests.{lt-ltb, le-ltb}
 use lib.Pow.{shl-exact}
 use Rattle.mask.specs.Mask.{only}

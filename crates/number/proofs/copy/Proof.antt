@@ -3,7 +3,6 @@
 use Prim.Native.Nat.{ℕ, _+_, _-_, _≤_, _<_}
 use mathlib.Core.Path.{_≡_, refl, sym, _∙_, ap}
 use mathlib.Core.List.{List}
-use denote.Ref.{now}
 use lib.ListN.{length, take, set, getD, length-set}
 use Rattle.number.specs.Number.{laid}
 use Rattle.number.specs.Laws.{laid-none, laid-byte}

@@ -1,10 +1,8 @@
 -- `number::put_number` lays the bytes of a number down: the scratch array holds them, and `copy` copies them. Assumes
 -- nothing.
-use Prim.Native.Nat.{ℕ, _+_, _≤_}
-use mathlib.Core.List.{List}
-use mathlib.Core.Path.{_≡_, sym, _∙_, ap}
+use mathlib.Core.Path.{_∙_, ap}
 use Rattle.number.specs.Number.{laid}
-use Rattle.number.specs.Laws.{Grouped, grouped-count}
+use Rattle.number.specs.Laws.{grouped-count}
 use borrow.Author.Needs.{needs}
 use native.Mathlib.Omega.{arith}
 use Rattle.number.proofs.put_number.Statement.{statement}

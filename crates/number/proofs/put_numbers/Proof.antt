@@ -1,10 +1,9 @@
 -- `number::put_numbers` lays the bytes of a row down: after i turns those of the first i numbers. The measure is what is left
 -- of the row. Assumes nothing.
 use Prim.Native.Nat.{ℕ, _+_, _-_, _≤_, _<_}
-use mathlib.Core.List.{List, _++_}
+use mathlib.Core.List.{List}
 use mathlib.Core.Path.{_≡_, refl, sym, _∙_, ap, ap₂}
 use native.Mathlib.Numerals.{add-one}
-use denote.Ref.{now}
 use lib.ListN.{length, take, getD, length-append}
 use lib.Seq.{take-length}
 use Rattle.number.specs.Number.{numberBytes, bytesOf, laid}

@@ -3,14 +3,13 @@
 -- Assumes nothing.
 use Prim.Native.Nat.{ℕ, _+_, _*_, _-_, _%_, _≤_, _<_, _^_}
 use mathlib.Core.List.{List}
-use mathlib.Core.Path.{_≡_, refl, sym, _∙_, ap}
+use mathlib.Core.Path.{_≡_, refl, sym, _∙_}
 use native.Mathlib.Nat.{mul-le-mul-right}
 use borrow.Author.Tests.{le-leb, lt-leb, lt-ltb, le-ltb}
 use denote.Ref.{now}
 use lib.ListN.{length, getD}
 use Rattle.number.specs.Number.{ends, numberFrom, readNumber}
 use Rattle.number.specs.Laws.{number-step, Weight, weight-start, weight-most, weight-room, weight-next}
-use Rattle.number.specs.declared.Number.{Number}
 use Rattle.number.specs.declared.Number.the-variants.{Refused}
 use native.Mathlib.Omega.{arith}
 use Rattle.number.proofs.read_number.Statement.{statement}

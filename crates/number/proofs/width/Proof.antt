@@ -1,14 +1,14 @@
 -- `number::width` adds up the lengths: after i turns those of the first i numbers, each at most 10. The measure is what is
 -- left of the numbers. Assumes nothing.
-use Prim.Native.Nat.{ℕ, suc, _+_, _*_, _-_, _≤_, _<_}
-use mathlib.Core.List.{List, []}
-use mathlib.Core.Path.{_≡_, refl, sym, _∙_, ap}
+use Prim.Native.Nat.{ℕ, _+_, _*_, _-_, _≤_, _<_}
+use mathlib.Core.List.{List}
+use mathlib.Core.Path.{_≡_, refl, _∙_, ap}
 use native.Mathlib.Numerals.{add-one}
 use denote.Ref.{now}
 use lib.ListN.{length, take, getD, length-append}
 use lib.Seq.{take-length}
 use Rattle.number.specs.Number.{numberBytes, bytesOf}
-use Rattle.number.specs.Laws.{Grouped, grouped-count, number-length, bytes-more}
+use Rattle.number.specs.Laws.{grouped-count, bytes-more}
 use native.Mathlib.Omega.{arith}
 use Rattle.number.proofs.width.Statement.{statement}
 use Rattle.number.proofs.width.Tie as tie

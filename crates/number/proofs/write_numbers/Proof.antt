@@ -2,7 +2,7 @@
 -- nothing.
 use Prim.Native.Nat.{ℕ, _+_}
 use mathlib.Core.List.{List, _++_}
-use mathlib.Core.Path.{_≡_, ap, ap₂, sym, _∙_}
+use mathlib.Core.Path.{_≡_, ap, ap₂, _∙_}
 use denote.Ref.{now}
 use lib.ListN.{length}
 use Rattle.number.specs.Number.{bytesOf, laid}

@@ -3,14 +3,14 @@
 use Prim.Native.Nat.{ℕ}
 use mathlib.Core.Bool.{Bool, true, false}
 use mathlib.Core.List.{List}
-use mathlib.Core.Path.{_≡_, refl, sym, _∙_, ap}
+use mathlib.Core.Path.{_≡_, sym, _∙_, ap}
 use borrow.Author.Tests.{eq-eqb, ne-eqb}
 use lib.ListN.{length}
 use Rattle.clock.specs.Pick.{refuse, orElse-first, orElse-rest}
 use Rattle.clock.specs.Tests.{some}
 use Rattle.setup.specs.declared.Plan.{Plan}
 use Rattle.setup.specs.Setup.{planAnswer, badFirst, firstAnswer, setupAnswer}
-use Rattle.setup.specs.Laws.{Planned, planned}
+use Rattle.setup.specs.Laws.{planned}
 use borrow.Author.Needs.{needs}
 use Rattle.setup.proofs.answer.Statement.{statement}
 use Rattle.setup.proofs.answer.Tie as tie

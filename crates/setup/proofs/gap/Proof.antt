@@ -1,5 +1,4 @@
 -- `setup::gap` answers `gap`: within the limits T·S fits a word. Assumes nothing.
-use mathlib.Core.Path.{refl, sym}
 use borrow.Author.Tests.{lt-ltb, le-ltb}
 use Rattle.setup.specs.Setup.{gap}
 use Rattle.setup.proofs.Products.{bound-rate}

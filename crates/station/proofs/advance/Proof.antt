@@ -1,15 +1,14 @@
 -- `station::advance` answers a board: 10, 11, 12, 14, else what the station does. Assumes nothing.
-use mathlib.Core.Path.{_≡_, refl, ap, sym, _∙_}
-use borrow.Author.Tests.{not-true, not-false, ne-eqb, eq-eqb, lt-ltb, le-ltb}
+use mathlib.Core.Path.{_≡_, sym, _∙_}
 use native.Mathlib.Omega.{arith}
-use mathlib.Core.Bool.{Bool, true, false, _||_}
+use mathlib.Core.Bool.{Bool, false, _||_}
 use lib.Dec.{ltb, leb}
 use Rattle.clock.specs.Limits.{maxIncrement}
 use Prim.Native.Nat.{ℕ}
 use borrow.Author.Tests.{ltb-false}
 use Rattle.clock.specs.Tests.{neither}
 use Rattle.station.specs.Limits.{Steady, is-steady}
-use Rattle.station.specs.Record.{advanceAnswer, moveAnswer, badBoard}
+use Rattle.station.specs.Record.{advanceAnswer, badBoard}
 use Rattle.station.specs.Laws.{sound-small, answered-no, answered-yes}
 use Rattle.setup.specs.declared.Plan.{Plan}
 use Rattle.station.specs.declared.Station.{Station}

@@ -1,6 +1,6 @@
 -- `station::bad_board` answers `badBoard`: the plan's rules, then the record's. Assumes nothing.
-use mathlib.Core.Path.{_≡_, refl, ap, sym, _∙_}
-use borrow.Author.Tests.{not-true, not-false, ne-eqb, eq-eqb, lt-ltb, le-ltb}
+use mathlib.Core.Path.{sym, _∙_}
+use borrow.Author.Tests.{ne-eqb}
 use Rattle.station.specs.Record.{badBoard}
 use Rattle.station.specs.Laws.{plan-limits}
 use borrow.Author.Needs.{needs}

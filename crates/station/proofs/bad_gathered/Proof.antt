@@ -1,6 +1,4 @@
 -- `station::bad_gathered` answers `badGathered`, from what `below` and `count` answer. Assumes nothing.
-use mathlib.Core.Path.{_≡_, refl, ap, sym, _∙_}
-use borrow.Author.Tests.{not-true, not-false, ne-eqb, eq-eqb, lt-ltb, le-ltb}
 use Rattle.station.specs.Record.{badGathered}
 use borrow.Author.Needs.{needs}
 use Rattle.station.proofs.bad_gathered.Statement.{statement}

@@ -1,6 +1,5 @@
 -- `station::bad_numbers` answers `badNumbers`. Assumes nothing.
-use mathlib.Core.Path.{_≡_, refl, ap, sym, _∙_}
-use borrow.Author.Tests.{not-true, not-false, ne-eqb, eq-eqb, lt-ltb, le-ltb}
+use mathlib.Core.Path.{refl}
 use Rattle.station.specs.Record.{badNumbers}
 use Rattle.station.proofs.bad_numbers.Statement.{statement}
 use Rattle.station.proofs.bad_numbers.Tie as tie

@@ -1,6 +1,4 @@
 -- `station::bad_signed` answers `badSigned`, by whether the reading is past the mark. Assumes nothing.
-use mathlib.Core.Path.{_≡_, refl, ap, sym, _∙_}
-use borrow.Author.Tests.{not-true, not-false, ne-eqb, eq-eqb, lt-ltb, le-ltb}
 use Rattle.station.specs.Laws.{signed-past, signed-before}
 use borrow.Author.Needs.{needs}
 use Rattle.station.proofs.bad_signed.Statement.{statement}

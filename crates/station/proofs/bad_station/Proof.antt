@@ -1,8 +1,6 @@
 -- `station::bad_station` answers `badStation`; past the plan's limits it refuses first, so that the mark is exact. Assumes nothing.
-use mathlib.Core.Path.{_≡_, refl, ap, sym, _∙_}
-use borrow.Author.Tests.{not-true, not-false, ne-eqb, eq-eqb, lt-ltb, le-ltb}
-use native.Mathlib.Omega.{arith}
-use Rattle.station.specs.Limits.{Small}
+use mathlib.Core.Path.{sym, _∙_}
+use borrow.Author.Tests.{lt-ltb, le-ltb}
 use Rattle.station.specs.Record.{pastLimits, badStation, badNumbers}
 use Rattle.clock.specs.Tests.{neither}
 use borrow.Author.Tests.{ltb-false}

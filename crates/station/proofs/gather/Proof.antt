@@ -1,7 +1,4 @@
 -- `station::gather` answers `hear`: another round is ignored, and the signers of its own are joined to those it has. Assumes nothing.
-use mathlib.Core.Path.{_≡_, refl, ap, sym, _∙_}
-use borrow.Author.Tests.{not-true, not-false, ne-eqb, eq-eqb, lt-ltb, le-ltb}
-use Rattle.station.specs.Limits.{Small}
 use Rattle.station.specs.Laws.{hear-other, hear-own}
 use borrow.Author.Needs.{needs}
 use Rattle.station.proofs.gather.Statement.{statement}

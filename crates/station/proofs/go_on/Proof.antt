@@ -1,7 +1,5 @@
 -- `station::go_on` answers `advance`: the moved station signs where it lands, and else is left as it is. Assumes nothing.
-use mathlib.Core.Path.{_≡_, refl, ap, sym, _∙_}
-use borrow.Author.Tests.{not-true, not-false, ne-eqb, eq-eqb, lt-ltb, le-ltb}
-use Rattle.station.specs.Limits.{Small}
+use mathlib.Core.Path.{sym, _∙_}
 use Rattle.station.specs.Laws.{advance-lands, advance-goes}
 use borrow.Author.Needs.{needs}
 use Rattle.station.proofs.go_on.Statement.{statement}

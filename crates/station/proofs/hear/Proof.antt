@@ -1,6 +1,5 @@
 -- `station::hear` answers a board: 10, then 11, else what the station does. Assumes nothing.
-use mathlib.Core.Path.{_≡_, refl, ap, sym, _∙_}
-use borrow.Author.Tests.{not-true, not-false, ne-eqb, eq-eqb, lt-ltb, le-ltb}
+use mathlib.Core.Path.{sym, _∙_}
 use native.Mathlib.Omega.{arith}
 use Rattle.station.specs.Record.{hearAnswer}
 use Rattle.station.specs.Laws.{sound-small, answered-no, answered-yes}

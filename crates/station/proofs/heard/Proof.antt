@@ -1,6 +1,6 @@
 -- `station::heard` hears within the limits, and does nothing past them. Assumes nothing.
-use mathlib.Core.Path.{_≡_, refl, ap, sym, _∙_}
-use borrow.Author.Tests.{not-true, not-false, ne-eqb, eq-eqb, lt-ltb, le-ltb}
+use mathlib.Core.Path.{sym, _∙_}
+use borrow.Author.Tests.{not-true, not-false}
 use Rattle.station.specs.Limits.{small-is}
 use borrow.Author.Needs.{needs}
 use Rattle.station.proofs.heard.Statement.{statement}

@@ -1,6 +1,5 @@
 -- `station::mark_for` answers `markFor`: within the limits a mark is k·P. Assumes nothing.
-use mathlib.Core.Path.{_≡_, refl, ap, sym, _∙_}
-use borrow.Author.Tests.{not-true, not-false, ne-eqb, eq-eqb, lt-ltb, le-ltb}
+use mathlib.Core.Path.{_∙_}
 use Rattle.station.specs.Limits.{mark-for}
 use borrow.Author.Needs.{needs}
 use Rattle.station.proofs.mark_for.Statement.{statement}

@@ -1,6 +1,4 @@
 -- `station::passes` answers `passes`, from the mark. Assumes nothing.
-use mathlib.Core.Path.{_≡_, refl, ap, sym, _∙_}
-use borrow.Author.Tests.{not-true, not-false, ne-eqb, eq-eqb, lt-ltb, le-ltb}
 use Rattle.station.specs.Station.{passes}
 use borrow.Author.Needs.{needs}
 use Rattle.station.proofs.passes.Statement.{statement}

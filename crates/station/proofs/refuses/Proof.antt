@@ -1,6 +1,6 @@
 -- `station::refuses` answers `moveAnswer` within the limits, and 12 past them. Assumes nothing.
-use mathlib.Core.Path.{_≡_, refl, ap, sym, _∙_}
-use borrow.Author.Tests.{not-true, not-false, ne-eqb, eq-eqb, lt-ltb, le-ltb}
+use mathlib.Core.Path.{sym, _∙_}
+use borrow.Author.Tests.{not-true, not-false}
 use Rattle.station.specs.Limits.{steady-is}
 use Rattle.station.specs.Record.{moveAnswer}
 use borrow.Author.Needs.{needs}

@@ -1,6 +1,4 @@
 -- `station::settle` answers `settle`, by its one test. Assumes nothing.
-use mathlib.Core.Path.{_≡_, refl, ap, sym, _∙_}
-use borrow.Author.Tests.{not-true, not-false, ne-eqb, eq-eqb, lt-ltb, le-ltb}
 use Rattle.station.specs.Laws.{settle-starts, settle-waits}
 use borrow.Author.Needs.{needs}
 use Rattle.station.proofs.settle.Statement.{statement}

@@ -1,6 +1,5 @@
 -- `station::small` answers `small`. Assumes nothing.
-use mathlib.Core.Path.{_≡_, refl, ap, sym, _∙_}
-use borrow.Author.Tests.{not-true, not-false, ne-eqb, eq-eqb, lt-ltb, le-ltb}
+use mathlib.Core.Path.{refl}
 use Rattle.station.specs.Limits.{small}
 use Rattle.station.proofs.small.Statement.{statement}
 use Rattle.station.proofs.small.Tie as tie

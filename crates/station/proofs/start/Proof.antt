@@ -1,6 +1,4 @@
 -- `station::start` answers `start`: the mark and A are far from the end of a word. Assumes nothing.
-use mathlib.Core.Path.{_≡_, refl, ap, sym, _∙_}
-use borrow.Author.Tests.{not-true, not-false, ne-eqb, eq-eqb, lt-ltb, le-ltb}
 use Rattle.station.specs.Laws.{start-is}
 use borrow.Author.Needs.{needs}
 use Rattle.station.proofs.start.Statement.{statement}

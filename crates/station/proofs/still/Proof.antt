@@ -1,6 +1,5 @@
 -- `station::still` leaves the station as it is. Assumes nothing.
-use mathlib.Core.Path.{_≡_, refl, ap, sym, _∙_}
-use borrow.Author.Tests.{not-true, not-false, ne-eqb, eq-eqb, lt-ltb, le-ltb}
+use mathlib.Core.Path.{refl}
 use Rattle.station.specs.Station.{still}
 use Rattle.station.proofs.still.Statement.{statement}
 use Rattle.station.proofs.still.Tie as tie

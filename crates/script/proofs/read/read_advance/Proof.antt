@@ -1,6 +1,6 @@
 -- `script::read_advance` answers `advanceFrom`: at each `return` the numbers read so far say how far the reading came. Assumes
 -- nothing.
-use mathlib.Core.Path.{_≡_, refl, ap, sym, _∙_}
+use mathlib.Core.Path.{refl, ap, sym, _∙_}
 use Rattle.script.specs.Read.{refusalOf}
 use Rattle.script.specs.ReadLaws.{got, lost, advance-refused, advance-stopped, advance-whole, unread-event, whole-event}
 use borrow.Author.Needs.{needs}

@@ -1,7 +1,7 @@
 -- `script::read_deliver` answers `deliverFrom`, from the four numbers that it reads. Assumes nothing.
 use Prim.Native.Nat.{ℕ}
 use mathlib.Core.List.{List, []}
-use mathlib.Core.Path.{_≡_, refl, ap, sym, _∙_}
+use mathlib.Core.Path.{refl, ap, _∙_}
 use lib.ListN.{getD}
 use Rattle.event.specs.declared.Event.the-variants.{Deliver}
 use Rattle.script.specs.Read.{deliverFrom, padded}

@@ -1,9 +1,9 @@
 -- `script::read_event` answers `readEvent`: n is asked first, then the kind says which reader goes on. Assumes nothing.
-use mathlib.Core.Path.{_≡_, refl, ap, sym, _∙_}
+use mathlib.Core.Path.{refl, ap, sym, _∙_}
 use borrow.Author.Tests.{eq-eqb, ne-eqb}
 use Rattle.clock.specs.Tests.{inside}
 use Rattle.clock.specs.Limits.{maxStations}
-use Rattle.script.specs.Read.{refusalOf, readEvent, eventFrom, asEvent}
+use Rattle.script.specs.Read.{refusalOf, readEvent, eventFrom}
 use Rattle.script.specs.ReadLaws.{unread-event}
 use borrow.Author.Needs.{needs}
 use Rattle.script.proofs.read.read_event.Statement.{statement}

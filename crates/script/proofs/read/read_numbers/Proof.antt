@@ -1,13 +1,9 @@
 -- `script::read_numbers` reads so many numbers: after i turns i of them stand in the array, and the others begin at the place.
 -- The measure is how many are left. Assumes nothing.
-use Prim.Native.Nat.{ℕ, _-_, _≤_}
-use mathlib.Core.List.{List}
-use mathlib.Core.Path.{_≡_, ap, sym, _∙_}
-use lib.ListN.{length, replicate}
-use Rattle.script.specs.Read.{asNumbers, readMany, stopped, refusalOf}
+use Prim.Native.Nat.{_-_}
+use mathlib.Core.Path.{ap, sym, _∙_}
+use Rattle.script.specs.Read.{refusalOf}
 use Rattle.script.specs.ReadLaws.{Taken, taken-none, taken-next, taken-stopped, taken-numbers, stopped-numbers}
-use Rattle.number.specs.declared.Number.the-variants.{Refused}
-use Rattle.script.specs.declared.read.Numbers.{Numbers}
 use borrow.Author.Needs.{needs}
 use native.Mathlib.Omega.{arith}
 use Rattle.script.proofs.read.read_numbers.Statement.{statement}

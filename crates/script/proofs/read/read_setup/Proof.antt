@@ -1,11 +1,9 @@
 -- `script::read_setup` answers `readSetup`: at each `return` the numbers read so far say how far the reading came. Assumes
 -- nothing.
-use Prim.Native.Nat.{ℕ}
-use mathlib.Core.List.{List}
-use mathlib.Core.Path.{_≡_, refl, ap, sym, _∙_}
+use mathlib.Core.Path.{refl, ap, sym, _∙_}
 use Rattle.clock.specs.Tests.{inside}
 use Rattle.clock.specs.Limits.{maxStations}
-use Rattle.script.specs.Read.{Setup, setup, planOf, refusalOf}
+use Rattle.script.specs.Read.{planOf, refusalOf}
 use Rattle.script.specs.ReadLaws.{got, lost, plan-padded, setup-refused, setup-one, setup-plan, setup-first, setup-whole, unread-setup, whole-setup}
 use borrow.Author.Needs.{needs}
 use Rattle.script.proofs.read.read_setup.Statement.{statement}

@@ -1,6 +1,5 @@
 -- `script::write_event` writes an event that is not barred as its numbers, kind by kind, and else answers its number. Assumes
 -- nothing.
-use mathlib.Core.Path.{refl, sym}
 use Rattle.script.specs.Write.{eventNumbers, refused-writes, accepted-writes}
 use borrow.Author.Needs.{needs}
 use Rattle.script.proofs.write.write_event.Statement.{statement}
