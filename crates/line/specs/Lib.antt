@@ -11,4 +11,5 @@ pub mod History
 pub mod Held
 pub mod HeldLaws
 pub mod Question
+pub mod Fresh
 pub mod Rehearsal

@@ -10,6 +10,7 @@ ghost use Rattle.line.specs.Run as run;
 ghost use Rattle.line.specs.Record as rule;
 ghost use Rattle.line.specs.Held as held;
 ghost use Rattle.line.specs.Question as question;
+ghost use Rattle.line.specs.Fresh as begin;
 use clock::MAX_FLIGHT;
 use clock::MAX_ROUND;
 use clock::MAX_TIME;
@@ -26,6 +27,86 @@ pub struct Line {
     pub length: u64,
     pub stations: [Station; 12],
     pub count: u64,
+}
+
+// ---- a fresh run
+
+// The answer to a setup: 0 with the run at its beginning, or 1 to 8 and no run.
+pub struct Begun {
+    pub answer: u64,
+    pub line: Line,
+}
+
+// A station with nothing in it.
+fn no_station() -> Station
+    ensures { λ r. ⌜ r ≡ run.noStation ⌝ }
+{
+    Station {
+        round: 0,
+        reading: Reading(0),
+        signed: 0,
+        gathered: 0,
+    }
+}
+
+// Each station in its place, in round 0 at its first reading, nothing signed.
+fn seat(first: &[u64]) -> [Station; 12]
+    requires { ⌜ length (now first) ≤ 12 ⌝ }
+    ensures { λ r. ⌜ r ≡ begin.seatedTo (now (first .entry)) (length (now (first .entry))) ⌝ }
+{
+    let mut table = [no_station(); 12];
+    let mut i: usize = 0;
+    while i < first.len() {
+        table[i] = Station {
+            round: 0,
+            reading: Reading(first[i]),
+            signed: 0,
+            gathered: 0,
+        };
+        i += 1;
+    }
+    table
+}
+
+// A run at real time 0, each sound station in round 0, nothing signed, nothing in flight; 1 to 8 for a setup that is
+// refused.
+pub fn fresh(plan: Plan, first: &[u64]) -> Begun
+    ensures { λ r. ⌜ r ≡ begin.begun plan (now (first .entry)) ⌝ }
+{
+    let answer = setup::answer(plan, first);
+    if answer != 0 {
+        let table = [no_station(); 12];
+        return Begun {
+            answer: answer,
+            line: Line {
+                plan: Plan {
+                    stations: 0,
+                    faults: 0,
+                    drift: 0,
+                    bound: 0,
+                    spread: 0,
+                    step: 0,
+                    period: 0,
+                    faulty: 0,
+                },
+                time: Moment(0),
+                length: 0,
+                stations: table,
+                count: 0,
+            },
+        };
+    }
+    let table = seat(first);
+    Begun {
+        answer: 0,
+        line: Line {
+            plan: plan,
+            time: Moment(0),
+            length: plan.stations,
+            stations: table,
+            count: 0,
+        },
+    }
 }
 
 // ---- the record
