@@ -1,4 +1,4 @@
--- What the answer 0 to an event says: each of the rules 11 to 19 by name, as a fact. Each table of refusals is taken apart
+-- What the answer 0 to an event says: each of the rules 10 to 19 by name, as a fact. Each table of refusals is taken apart
 -- once, here, and no later proof looks at a test.
 use Prim.Native.Nat.{ℕ, _+_, _^_, _<_, _≤_}
 use mathlib.Core.Bool.{Bool, true, false, _&&_, _||_, not}
@@ -20,11 +20,13 @@ use Rattle.station.specs.Station.{waits, markFor, passes}
 use Rattle.station.specs.Record.{exceeds}
 use Rattle.flight.specs.Message.{indexOf, overdue}
 use Rattle.flight.specs.Members.{All, none-overdue, indexOf-most}
+use Rattle.event.specs.declared.Event.{Event}
 use Rattle.event.specs.declared.Event.the-variants.{Advance, Deliver, Send}
 use Rattle.event.specs.Event.{badIncrement, badAdvance, badEnds, barred}
 use Rattle.line.specs.Run.{Run, sound, stationAt}
-use Rattle.line.specs.Event.{namesOf, effect, someStation, exceedsAt, driftsAt, passesAt, unsignedAt, unsigned, full, eventRules, stepAnswer}
-use Rattle.line.specs.Valid.{Sound, none-station, is-sound}
+use Rattle.line.specs.Record.{badRecord}
+use Rattle.line.specs.Event.{namesOf, effect, someStation, exceedsAt, driftsAt, passesAt, unsignedAt, unsigned, full, eventRules, stepAnswer, eventAnswer}
+use Rattle.line.specs.Valid.{Sound, Valid, valid-is, none-station, is-sound}
 
 -- an advance by d that is accepted
 pub record Advances (r : Run) (d : ℕ) (increments : List ℕ) : Type 0 where
@@ -85,6 +87,12 @@ second-fails true b e t = e
 second-fails false b e t = let z : _≡_ {A = ℕ} 0 1 = cc in absurd (omega arith)
 
 -- ---- the tables taken apart
+
+-- an event that is answered 0 met a valid record, and none of the rules 11 to 19 refuses it
+pub accepted : (r : Run) (e : Event) (increments : List ℕ) → eventAnswer r e increments ≡ 0
+    → Valid r × (stepAnswer r e increments ≡ 0)
+unfolding eventAnswer
+accepted r e increments h = let ten = refuse-none (badRecord r) 9 (stepAnswer r e increments) h in (valid-is r (ten .0), ten .1)
 
 -- an increment that 11 does not bar
 pub increment-is : (faulty i x : ℕ) → badIncrement faulty i x ≡ false → (x ≤ maxIncrement) × (has faulty i ≡ true → x ≡ 0)

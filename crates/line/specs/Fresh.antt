@@ -1,15 +1,13 @@
 -- A fresh run as the code makes it from a setup: 1 to 8, or a run whose model is document 01's fresh run.
-use Prim.Native.Nat.{ℕ, zero, suc, _+_, _≤_, _<_}
-use mathlib.Core.List.{List, [], _∷_, _++_}
-use mathlib.Core.Path.{_≡_, refl, ap, ap₂, sym, _∙_}
+use Prim.Native.Nat.{ℕ, zero, suc, _≤_, _<_}
+use mathlib.Core.List.{List, [], _∷_}
+use mathlib.Core.Path.{_≡_, refl, ap, sym, _∙_}
 use native.Mathlib.Decide.{decLt}
-use native.Mathlib.Numerals.{add-one}
 use native.Mathlib.Omega.{arith}
 use lib.Dec.{eqb}
 use borrow.Author.Tests.{eq-eqb, ne-eqb}
 use lib.ListN.{length, getD, set, replicate, length-set}
 use lib.Seq.{getD-set-same, getD-set-other, ext-getD}
-use Rattle.clock.specs.Limits.{maxStations}
 use Rattle.clock.specs.Pick.{pick}
 use Rattle.setup.specs.declared.Plan.{Plan}
 use Rattle.setup.specs.Setup.{setupAnswer}
@@ -18,8 +16,8 @@ use Rattle.station.specs.declared.Station.{Station}
 use Rattle.flight.specs.Message.{decode}
 use Rattle.line.specs.declared.Line.{Line}
 use Rattle.line.specs.declared.Begun.{Begun}
-use Rattle.line.specs.Run.{Run, noStation, freshStation, freshStations, fresh}
-use Rattle.line.specs.Held.{firstOf, placeOf, runOf}
+use Rattle.line.specs.Run.{noStation, freshStation, freshStations, fresh}
+use Rattle.line.specs.Held.{firstOf, runOf}
 use Rattle.line.specs.HeldLaws.{first-length, place-some}
 
 -- twelve places with nothing in them

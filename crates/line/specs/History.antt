@@ -1,37 +1,37 @@
--- The number in flight is the messages sent to sound stations less the messages delivered, both counted from the run's
--- history: what was sent is read off the stations' states before and after each event, and never off the flight. Each event
--- keeps the count, so every history does.
+-- Every history leaves the record of its run valid, and the number in flight is the messages sent to sound stations less the
+-- messages delivered, both counted from that history: what was sent is read off the stations' states before and after each
+-- event, and never off the flight. Each event keeps the record valid and the count right, so every history does.
 use Prim.Native.Nat.{ℕ, zero, suc, _+_, _*_, _<_, _≤_}
-use mathlib.Core.Bool.{Bool, true, false, _&&_, _||_, not}
+use mathlib.Core.Bool.{Bool, true, false, not}
 use mathlib.Core.List.{List, [], _∷_, _++_}
 use mathlib.Core.Path.{_≡_, refl, ap, sym, _∙_}
 use native.Mathlib.Omega.{arith}
 use native.Mathlib.Decide.{decLt}
-use lib.Dec.{ltb, leb, eqb}
+use lib.Dec.{eqb}
 use lib.ListN.{length, getD, length-append}
-use borrow.Author.Tests.{ltb-true, eqb-true, eqb-false, ne-eqb, eq-eqb, lt-leb, not-false}
+use borrow.Author.Tests.{eqb-true, eqb-false, ne-eqb, eq-eqb}
 use Rattle.clock.specs.Limits.{maxStations}
 use Rattle.clock.specs.Pick.{pick}
-use Rattle.clock.specs.Tests.{neither, both}
 use Rattle.mask.specs.Mask.{has, one, countTo, count}
-use Rattle.mask.specs.Laws.{count-below, has-minus, has-all, has-only}
+use Rattle.mask.specs.Laws.{count-none}
 use Rattle.setup.specs.declared.Plan.{Plan}
-use Rattle.setup.specs.Setup.{planAnswer}
-use Rattle.setup.specs.Laws.{planned}
+use Rattle.setup.specs.Setup.{setupAnswer}
 use Rattle.station.specs.declared.Station.{Station}
 use Rattle.station.specs.declared.Outcome.{Outcome}
-use Rattle.station.specs.Station.{waits, markFor, still, complete, start, settle, gather, hear, sign, move, lands, advance}
-use Rattle.station.specs.Record.{badNumbers, badSigned, badGathered, badStation}
+use Rattle.station.specs.Station.{waits, still, start, settle, gather, hear, sign, move, lands, advance}
 use Rattle.flight.specs.declared.Message.{Message}
 use Rattle.flight.specs.Message.{sentTo, indexOf, without}
 use Rattle.flight.specs.Members.{length-without, length-sentTo}
 use Rattle.event.specs.declared.Event.{Event}
 use Rattle.event.specs.declared.Event.the-variants.{Advance, Deliver, Send}
-use Rattle.line.specs.Run.{Run, sound, stationAt, fresh, others, readyOf, relayOf, sends}
-use Rattle.line.specs.Record.{badFaulty, badStationAt}
+use Rattle.line.specs.Run.{Run, stationAt, fresh, others, readyOf, relayOf, sends, landsAt}
+use Rattle.line.specs.Record.{badRecord}
 use Rattle.line.specs.Event.{namesOf, eventAnswer, step}
-use Rattle.line.specs.Moves.{step-refused, accepted, valid-record, Ends, deliver-ends, send-ends, heard, heardSends, messageNamed, advanceAt, advanceSends}
-use Rattle.line.specs.Moves.{advance-station, advance-flight, deliver-there, deliver-is, deliver-station, deliver-other, send-is, send-station, send-other}
+use Rattle.line.specs.Valid.{Ruled, Between, none, fresh-valid}
+use Rattle.line.specs.Allowed.{Advances, accepted, advances}
+use Rattle.line.specs.ValidSteps.{landed-sound, step-valid}
+use Rattle.line.specs.Moves.{settle-either, hear-either, advance-either, lands-is, step-refused, heard, heardSends, messageNamed, advanceAt, advanceSends}
+use Rattle.line.specs.Moves.{advance-station, advance-flight, delivered, deliver-is, deliver-station, deliver-other, faulty-sent, send-is, send-station, send-other}
 
 -- ---- histories
 
@@ -51,20 +51,25 @@ unfolding played
 played-on r [] e = refl
 played-on r (a ∷ es) e = played-on (step r (a .event) (a .increments)) es e
 
+-- ---- every history keeps the record valid
+
+-- from any valid run
+pub played-valid : (r : Run) (es : List Entry) → badRecord r ≡ false → badRecord (played r es) ≡ false
+unfolding played
+played-valid r [] v = v
+played-valid r (e ∷ es) v =
+    played-valid (step r (e .event) (e .increments)) es (step-valid r (e .event) (e .increments) v)
+
+-- and from a fresh one of an accepted setup
+pub run-valid : (plan : Plan) (first : List ℕ) (es : List Entry) → setupAnswer plan first ≡ 0
+    → badRecord (played (fresh plan first) es) ≡ false
+run-valid plan first es e = played-valid (fresh plan first) es (fresh-valid plan first e)
+
 -- ---- what was sent and delivered
 
 -- how many other sound stations there are than i
 abbrev pub othersOf : Plan → ℕ → ℕ
 othersOf plan i = countTo maxStations (has (others plan i))
-
--- the others of a planned line are its sound stations but i
-pub others-are : (plan : Plan) (i j : ℕ) → planAnswer plan ≡ 0 → i < plan .stations
-    → has (others plan i) j ≡ (sound plan j && not (eqb i j))
-unfolding others sound
-others-are plan i j e h =
-    let p = planned plan e in
-    let w : plan .stations ≤ 63 = omega (arith, p .stations .1) in
-    rw (has-minus, has-minus, has-all (plan .stations) j w, has-only i j (omega arith)) refl
 
 -- how many messages a station sends to each other: a ready where its last signed round changed, a relay where its round did
 unfoldable pub told : Station → Station → ℕ
@@ -166,26 +171,18 @@ told-none : (s : Station) → told s s ≡ 0
 unfolding told
 told-none s = rw (eq-eqb (s .signed) (s .signed) refl, eq-eqb (s .round) (s .round) refl) refl
 
--- no station is in the empty set
-count-none : (mask : ℕ) → mask ≡ 0 → count mask ≡ 0
-unfolding countTo
-count-none mask e = rw e (count-below 0 0 (omega arith) (omega arith))
-
 -- a station that settles as g, from a state of the same round, relays where its round changed: what starts a round is not empty
-module _ (ready : Bool) (plan : Plan) (s g : Station) (round : g .round ≡ s .round)
-    (signed : ready ≡ not (eqb (s .signed) (g .signed))) where
-  settle-tells : Tells s (settle ready plan g)
-  unfolding settle complete start
-  settle-tells = go (complete plan g) refl
-    where
-      go : (b : Bool) → complete plan g ≡ b
-          → Tells s (pick b (record { station = start plan g; ready = ready; relay = g .gathered }) (record { station = g; ready = ready; relay = 0 }))
-      go true e = record {
-        ready = signed;
-        relay = ne-eqb (g .gathered) 0 (λ z. omega (arith, ltb-true (plan .faults) (count (g .gathered)) e, count-none (g .gathered) z))
-            ∙ sym (ne-eqb (s .round) (waits g) (λ z. omega arith));
-      }
-      go false e = record { ready = signed; relay = sym (eq-eqb (s .round) (g .round) (sym round)) }
+settle-tells : (ready : Bool) (plan : Plan) (s g : Station) → g .round ≡ s .round → ready ≡ not (eqb (s .signed) (g .signed))
+    → Tells s (settle ready plan g)
+unfolding start
+settle-tells ready plan s g round signed =
+    settle-either (Tells s) ready plan g
+    (λ l. record {
+      ready = signed;
+      relay = ne-eqb (g .gathered) 0 (λ z. omega (arith, l, ap count z, count-none))
+          ∙ sym (ne-eqb (s .round) (waits g) (λ z. omega arith));
+    })
+    (λ l. record { ready = signed; relay = sym (eq-eqb (s .round) (g .round) (sym round)) })
 
 -- one that does nothing
 still-tells : (s t : Station) → t .round ≡ s .round → t .signed ≡ s .signed → Tells s (still t)
@@ -197,79 +194,52 @@ still-tells s t round signed = record {
 
 -- one that hears
 hear-tells : (plan : Plan) (round signers : ℕ) (s : Station) → Tells s (hear plan round signers s)
-unfolding hear gather
-hear-tells plan round signers s = go (eqb round (waits s))
-  where
-    go : (b : Bool) → Tells s (pick b (settle false plan (gather signers s)) (still s))
-    go true = settle-tells false plan s (gather signers s) refl (rw (eq-eqb (s .signed) (s .signed) refl) refl)
-    go false = still-tells s s refl refl
+unfolding gather
+hear-tells plan round signers s =
+    hear-either (Tells s) plan round signers s
+    (λ q. settle-tells false plan s (gather signers s) refl (rw (eq-eqb (s .signed) (s .signed) refl) refl)) (still-tells s s refl refl)
 
 -- one that advances, where it has not signed the round it lands on
 advance-tells : (plan : Plan) (i by : ℕ) (s : Station) → (lands plan by s ≡ true → s .signed ≡ waits s → ⊥)
     → Tells s (advance plan i by s)
-unfolding advance sign move
-advance-tells plan i by s new = go (lands plan by s) refl
-  where
-    go : (b : Bool) → lands plan by s ≡ b → Tells s (pick b (sign plan i (move by s)) (still (move by s)))
-    go true e = settle-tells true plan s _ refl (rw (ne-eqb (s .signed) (waits s) (new e)) refl)
-    go false e = still-tells s (move by s) refl refl
-
--- a faulty station has signed nothing
-faulty-signed : (s : Station) → badFaulty s ≡ false → s .signed ≡ 0
-unfolding badFaulty
-faulty-signed s e =
-    let a = neither _ (not (eqb (s .gathered) 0)) e in
-    let b = neither (not (eqb (s .round) 0) || not (eqb (s .reading .0) 0)) (not (eqb (s .signed) 0)) (a .0) in
-    eqb-true _ _ (not-false _ (b .1))
-
--- a sound one below its mark has not signed the round it waits for
-sound-signed : (plan : Plan) (s : Station) → badStation plan s ≡ false → s .reading .0 < markFor plan s
-    → s .signed < waits s
-unfolding badStation badSigned
-sound-signed plan s e h =
-    let a = neither _ (badGathered plan s) e in
-    let b = neither (badNumbers s) (badSigned plan s) (a .0) in
-    let c = not-false (pick (leb (markFor plan s) (s .reading .0)) (eqb (s .signed) (waits s)) (ltb (s .signed) (waits s))) (b .1) in
-    ltb-true (s .signed) (waits s) (rw (lt-leb (markFor plan s) (s .reading .0) h) at c)
-
--- so a station of a valid record that lands on a mark has not signed its round
-lands-new : (r : Run) (i by : ℕ) → badStationAt r i ≡ false → lands (r .plan) by (stationAt r i) ≡ true
-    → stationAt r i .signed ≡ waits (stationAt r i) → ⊥
-unfolding badStationAt lands
-lands-new r i by e l q = go (has (r .plan .faulty) i) e
-  where
-    under : stationAt r i .reading .0 < markFor (r .plan) (stationAt r i)
-    under = ltb-true _ _ (both (ltb (stationAt r i .reading .0) (markFor (r .plan) (stationAt r i))) _ l .0)
-
-    go : (b : Bool) → pick b (badFaulty (stationAt r i)) (badStation (r .plan) (stationAt r i)) ≡ false → ⊥
-    go true f = omega (arith, faulty-signed (stationAt r i) f)
-    go false f = omega (arith, sound-signed (r .plan) (stationAt r i) f under)
+unfolding sign move
+advance-tells plan i by s new =
+    advance-either (Tells s) plan i by s (λ e. settle-tells true plan s _ refl (rw (ne-eqb (s .signed) (waits s) (new e)) refl))
+    (still-tells s (move by s) refl refl)
 
 -- ---- each event keeps the count
 
--- what the first k stations send in an advance
-length-advance : (r : Run) (d : ℕ) (increments : List ℕ) (k : ℕ) → ((i : ℕ) → i < k → badStationAt r i ≡ false)
-    → length (advanceSends r d increments k)
-    ≡ sumTo k (λ i. sentFrom (r .plan) i (stationAt r i) (advanceAt r increments i .station))
-unfolding advanceSends sumTo
-length-advance r d increments zero each = refl
-length-advance r d increments (suc k) each =
-    let new = lands-new r k (getD increments k 0) (each k (omega arith)) in
-    let t = advance-tells (r .plan) k (getD increments k 0) (stationAt r k) new in
-    rw length-append
-    (omega (
-      arith,
-      length-advance r d increments k (λ i h. each i (omega arith)),
-      length-sends (r .plan) (r .time + d) k (waits (stationAt r k)) (stationAt r k) (advanceAt r increments k) t,
-    ))
+module _ (r : Run) (d : ℕ) (increments : List ℕ) (v : Between none r) (a : Advances r d increments) where
+  -- a station that lands on a mark has not signed its round
+  lands-new : (i : ℕ) → i < r .plan .stations → lands (r .plan) (getD increments i 0) (stationAt r i) ≡ true
+      → stationAt r i .signed ≡ waits (stationAt r i) → ⊥
+  unfolding landsAt
+  lands-new i h e q =
+      let s : Ruled (r .plan) (stationAt r i) = v .stations i (record { line = h; unmarked = landed-sound r d increments v a i h e }) in
+      omega (arith, s .before (lands-is (r .plan) (getD increments i 0) (stationAt r i) e .0))
+
+  -- what the first k stations send in an advance
+  length-advance : (k : ℕ) → k ≤ r .plan .stations
+      → length (advanceSends r d increments k)
+      ≡ sumTo k (λ i. sentFrom (r .plan) i (stationAt r i) (advanceAt r increments i .station))
+  unfolding advanceSends sumTo
+  length-advance zero h = refl
+  length-advance (suc k) h =
+      let t = advance-tells (r .plan) k (getD increments k 0) (stationAt r k) (lands-new k (omega arith)) in
+      rw length-append
+      (omega (
+        arith,
+        length-advance k (omega arith),
+        length-sends (r .plan) (r .time + d) k (waits (stationAt r k)) (stationAt r k) (advanceAt r increments k) t,
+      ))
 
 -- an accepted advance adds what the stations sent
 count-advance : (r : Run) (d : ℕ) (increments : List ℕ) → eventAnswer r (Advance d) increments ≡ 0
     → length (step r (Advance d) increments .flight) ≡ length (r .flight) + sentBy r (step r (Advance d) increments)
 unfolding sentBy
 count-advance r d increments h =
-    let v = valid-record r (accepted r (Advance d) increments h .valid) in
-    let sent = length-advance r d increments (r .plan .stations) (v .each) in
+    let a = accepted r (Advance d) increments h in
+    let sent = length-advance r d increments (a .0 .rules) (advances r increments d (a .1)) (r .plan .stations) (omega arith) in
     let same = sum-same (r .plan .stations) _ (sentAt r (step r (Advance d) increments)) changed in
     rw (advance-flight r d increments h, length-append) (omega (arith, sent, same))
   where
@@ -298,7 +268,7 @@ count-deliver : (r : Run) (sender recipient round kind : ℕ) (increments : List
     → length (step r (Deliver sender recipient round kind) increments .flight) + 1
     ≡ length (r .flight) + sentBy r (step r (Deliver sender recipient round kind) increments)
 count-deliver r sender recipient round kind increments h =
-    omega (arith, flight, sent, length-without at (r .flight), deliver-there r sender recipient round kind increments h)
+    omega (arith, flight, sent, length-without at (r .flight), delivered r sender recipient round kind increments h .found)
   where
     at : ℕ
     at = indexOf (namesOf sender recipient round kind) (r .flight)
@@ -309,16 +279,13 @@ count-deliver r sender recipient round kind increments h =
     after : Run
     after = step r (Deliver sender recipient round kind) increments
 
-    ends : Ends r sender recipient
-    ends = deliver-ends r sender recipient round kind increments (accepted r (Deliver sender recipient round kind) increments h)
-
     flight : length (after .flight) ≡ length (without at (r .flight)) + length (heardSends r recipient round signers)
     flight = rw (deliver-is r sender recipient round kind increments h, length-append) refl
 
     sent : length (heardSends r recipient round signers) ≡ sentBy r after
     sent =
-        count-heard r after recipient round signers (ends .station) (deliver-station r sender recipient round kind increments h)
-        (deliver-other r sender recipient round kind increments h)
+        count-heard r after recipient round signers (delivered r sender recipient round kind increments h .ends .to .line)
+        (deliver-station r sender recipient round kind increments h) (deliver-other r sender recipient round kind increments h)
 
 -- an accepted faulty send adds what its recipient sent
 count-send : (r : Run) (sender recipient round signers : ℕ) (increments : List ℕ)
@@ -330,16 +297,13 @@ count-send r sender recipient round signers increments h = omega (arith, flight,
     after : Run
     after = step r (Send sender recipient round signers) increments
 
-    ends : Ends r sender recipient
-    ends = send-ends r sender recipient round signers increments (accepted r (Send sender recipient round signers) increments h)
-
     flight : length (after .flight) ≡ length (r .flight) + length (heardSends r recipient round signers)
     flight = rw (send-is r sender recipient round signers increments h, length-append) refl
 
     sent : length (heardSends r recipient round signers) ≡ sentBy r after
     sent =
-        count-heard r after recipient round signers (ends .station) (send-station r sender recipient round signers increments h)
-        (send-other r sender recipient round signers increments h)
+        count-heard r after recipient round signers (faulty-sent r sender recipient round signers increments h .ends .to .line)
+        (send-station r sender recipient round signers increments h) (send-other r sender recipient round signers increments h)
 
 -- so each accepted event keeps the count
 count-accepted : (r : Run) (e : Event) (increments : List ℕ) → eventAnswer r e increments ≡ 0

@@ -5,8 +5,8 @@ pub mod Record
 pub mod Event
 pub mod Valid
 pub mod Allowed
-pub mod ValidSteps
 pub mod Moves
+pub mod ValidSteps
 pub mod History
 pub mod Held
 pub mod HeldLaws

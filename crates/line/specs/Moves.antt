@@ -1,37 +1,38 @@
--- What an accepted event does to the run, document 01, "Events": every station, the time and the flight afterwards. An event
--- that is answered 0 has passed each test of the table, so the facts that its effect needs are read off the answer.
+-- What an accepted event does to the run, document 01, "Events": every station, the time and the flight afterwards. The
+-- small steps of an event are followed one by one, and what it needs of the record and of its table is read off the answer 0.
 use Prim.Native.Nat.{ℕ, zero, suc, _+_, _*_, _-_, _<_, _≤_}
-use mathlib.Core.Bool.{Bool, true, false, _||_, not}
+use mathlib.Core.Bool.{Bool, true, false, _&&_, not}
 use mathlib.Core.List.{List, [], _∷_, _++_, append-assoc, append-nil}
 use mathlib.Core.Path.{_≡_, refl, ap, sym, _∙_}
 use native.Mathlib.Omega.{arith}
 use native.Mathlib.Decide.{decLt}
-use lib.Dec.{ltb, leb, eqb}
+use lib.Dec.{ltb, eqb}
 use lib.ListN.{length, getD, set, length-set}
 use lib.Seq.{getD-set-same, getD-set-other, set-getD}
-use borrow.Author.Tests.{leb-false, eqb-true, eqb-false, ne-eqb, lt-ltb, le-ltb, eq-eqb, not-false}
-use Rattle.clock.specs.Limits.{maxStations, maxTime, maxFlight, maxAdvance}
-use Rattle.clock.specs.Pick.{pick, refuse-none}
-use Rattle.clock.specs.Tests.{outside, inside, neither}
+use borrow.Author.Tests.{ltb-true, ltb-false, eqb-true, eqb-false, ne-eqb, lt-ltb, le-ltb, eq-eqb}
+use Rattle.clock.specs.Limits.{maxStations}
+use Rattle.clock.specs.Pick.{pick}
+use Rattle.clock.specs.Tests.{both}
 use Rattle.mask.specs.Mask.{has, count, join, only}
+use Rattle.mask.specs.Laws.{has-minus, has-all, has-only}
 use Rattle.setup.specs.declared.Plan.{Plan}
-use Rattle.setup.specs.Setup.{planAnswer}
+use Rattle.setup.specs.Laws.{Planned}
 use Rattle.station.specs.declared.Station.{Station}
 use Rattle.station.specs.declared.Outcome.{Outcome}
 use Rattle.station.specs.Station.{waits, markFor, still, complete, start, settle, gather, hear, sign, move, lands, advance}
 use Rattle.flight.specs.declared.Message.{Message}
 use Rattle.flight.specs.declared.Names.{Names}
-use Rattle.flight.specs.Message.{named, noMessage, indexOf, without, sentTo, sameNames, someOf, twins}
+use Rattle.flight.specs.Message.{named, noMessage, indexOf, without, toward, sentTo, sameNames, twins}
 use Rattle.flight.specs.Message.{namesOf as messageNames}
 use Rattle.flight.specs.Members.{All, noMember, all-append, all-of, all-map, all-sentTo, length-without, without-at}
-use Rattle.flight.specs.Members.{Agree, named-agree, agree-named, differs, indexOf-most, indexOf-named}
+use Rattle.flight.specs.Members.{Agree, named-agree, agree-named, differs, indexOf-named}
 use Rattle.flight.specs.Apart.{Apart, other-turn, twins-apart}
 use Rattle.event.specs.declared.Event.{Event}
 use Rattle.event.specs.declared.Event.the-variants.{Advance, Deliver, Send}
-use Rattle.event.specs.Event.{badAdvance, badEnds, barred}
-use Rattle.line.specs.Run.{Run, noStation, stationAt, others, readyOf, relayOf, sends, become, signAt, hearAt, movedAll, moves, landsAt, signTo}
-use Rattle.line.specs.Record.{badStationAt, someBadStation, badMessage, badRecord}
-use Rattle.line.specs.Event.{namesOf, takeOut, effect, eventRules, stepAnswer, eventAnswer, step}
+use Rattle.line.specs.Run.{Run, sound, noStation, stationAt, others, readyOf, relayOf, sends, become, signAt, hearAt, movedAll, moves, landsAt, signTo}
+use Rattle.line.specs.Event.{namesOf, takeOut, effect, eventAnswer, step}
+use Rattle.line.specs.Valid.{Valid}
+use Rattle.line.specs.Allowed.{Delivers, FaultySends, accepted, advances, delivers, faulty-sends}
 
 -- ---- accepted and refused
 
@@ -47,97 +48,82 @@ pub step-refused : (r : Run) (e : Event) (increments : List ℕ) → (eventAnswe
 unfolding step
 step-refused r e increments h = rw (ne-eqb (eventAnswer r e increments) 0 h) refl
 
--- an accepted event met a valid record, is not barred by 11, and breaks none of the rules 12 to 19
-pub record Accepted (r : Run) (e : Event) (increments : List ℕ) : Type 0 where
-  pub valid : badRecord r ≡ false
-  pub allowed : barred (r .plan .stations) (r .plan .faulty) e increments ≡ false
-  pub rules : eventRules r e increments ≡ 0
+-- ---- a station's step
 
--- what is answered 0 is accepted
-pub accepted : (r : Run) (e : Event) (increments : List ℕ) → eventAnswer r e increments ≡ 0 → Accepted r e increments
-unfolding eventAnswer stepAnswer
-accepted r e increments h =
-    let ten = refuse-none (badRecord r) 9 _ h in
-    let eleven = refuse-none (barred (r .plan .stations) (r .plan .faulty) e increments) 10 _ (ten .1) in
-    record { valid = ten .0; allowed = eleven .0; rules = eleven .1 }
+-- a station that settles starts where it holds f + 1 signatures, and else waits on
+pub settle-either : (P : Outcome → Type 0) (ready : Bool) (plan : Plan) (s : Station)
+    → (plan .faults < count (s .gathered) → P (record { station = start plan s; ready = ready; relay = s .gathered }))
+    → (count (s .gathered) ≤ plan .faults → P (record { station = s; ready = ready; relay = 0 }))
+    → P (settle ready plan s)
+unfolding settle complete
+settle-either P ready plan s starts stays = go (ltb (plan .faults) (count (s .gathered))) refl
+  where
+    go : (b : Bool) → ltb (plan .faults) (count (s .gathered)) ≡ b
+        → P (pick b (record { station = start plan s; ready = ready; relay = s .gathered })
+        (record { station = s; ready = ready; relay = 0 }))
+    go true e = starts (ltb-true _ _ e)
+    go false e = stays (ltb-false _ _ e)
 
--- a valid record has n stations, each of which keeps its rules, and no two messages that agree in all four names
-pub record Valid (r : Run) : Type 0 where
-  pub plan : planAnswer (r .plan) ≡ 0
-  pub stations : length (r .stations) ≡ r .plan .stations
-  pub each : (i : ℕ) → i < r .plan .stations → badStationAt r i ≡ false
-  pub apart : twins (r .flight) ≡ false
+-- one that hears settles where the round is the one it waits for, and else does nothing
+pub hear-either : (P : Outcome → Type 0) (plan : Plan) (round signers : ℕ) (s : Station)
+    → (round ≡ waits s → P (settle false plan (gather signers s))) → P (still s) → P (hear plan round signers s)
+unfolding hear
+hear-either P plan round signers s hears stays = go (eqb round (waits s)) refl
+  where
+    go : (b : Bool) → eqb round (waits s) ≡ b → P (pick b (settle false plan (gather signers s)) (still s))
+    go true e = hears (eqb-true _ _ e)
+    go false e = stays
 
--- where none of the first k breaks its rules, each of them keeps them
-each-station : (r : Run) (k i : ℕ) → someBadStation r k ≡ false → i < k → badStationAt r i ≡ false
-unfolding someBadStation
-each-station r zero i e h = absurd (omega arith)
-each-station r (suc k) i e h =
-    let n = neither (someBadStation r k) (badStationAt r k) e in
-    elim (decLt i k) [
-      | yes b ↦ each-station r k i (n .0) b
-      | no b ↦ let s : i ≡ k = omega arith in rw s (n .1)
-    ]
+-- one that advances signs where it lands, and else goes on
+pub advance-either : (P : Outcome → Type 0) (plan : Plan) (i by : ℕ) (s : Station)
+    → (lands plan by s ≡ true → P (sign plan i (move by s))) → P (still (move by s)) → P (advance plan i by s)
+unfolding advance
+advance-either P plan i by s signs stays = go (lands plan by s) refl
+  where
+    go : (b : Bool) → lands plan by s ≡ b → P (pick b (sign plan i (move by s)) (still (move by s)))
+    go true e = signs e
+    go false e = stays
 
--- a record that 10 does not refuse is valid
-pub valid-record : (r : Run) → badRecord r ≡ false → Valid r
-unfolding badRecord
-valid-record r e =
-    let a = neither _ (twins (r .flight)) e in
-    let b = neither _ (someOf (badMessage r) (r .flight)) (a .0) in
-    let c = neither _ (ltb maxFlight (length (r .flight))) (b .0) in
-    let d = neither _ (someBadStation r (r .plan .stations)) (c .0) in
-    let t = neither _ (ltb maxTime (r .time)) (d .0) in
-    let l = neither (not (eqb (planAnswer (r .plan)) 0)) (not (eqb (length (r .stations)) (r .plan .stations))) (t .0) in
-    record {
-      plan = eqb-true _ _ (not-false _ (l .0));
-      stations = eqb-true _ _ (not-false _ (l .1));
-      each = λ i h. each-station r (r .plan .stations) i (d .1) h;
-      apart = a .1;
-    }
+-- one that lands comes up to its mark from below
+pub lands-is : (plan : Plan) (by : ℕ) (s : Station) → lands plan by s ≡ true
+    → (s .reading .0 < markFor plan s) × (s .reading .0 + by ≡ markFor plan s)
+unfolding lands
+lands-is plan by s e =
+    let t = both (ltb (s .reading .0) (markFor plan s)) (eqb (s .reading .0 + by) (markFor plan s)) e in
+    (ltb-true _ _ (t .0), eqb-true _ _ (t .1))
 
--- an accepted advance has a d of at least 1 and n increments
-pub advance-way : (r : Run) (d : ℕ) (increments : List ℕ) → Accepted r (Advance d) increments
-    → (1 ≤ d) × (length increments ≡ r .plan .stations)
-unfolding barred badAdvance
-advance-way r d increments h =
-    let a = neither (outside 1 maxAdvance d || not (eqb (length increments) (r .plan .stations))) _ (h .allowed) in
-    let b = neither (outside 1 maxAdvance d) (not (eqb (length increments) (r .plan .stations))) (a .0) in
-    (inside 1 maxAdvance d (b .0) .0, eqb-true _ _ (not-false _ (b .1)))
+-- ---- what it sends
 
--- a message's recipient is a station, and not its sender
-pub record Ends (r : Run) (sender recipient : ℕ) : Type 0 where
-  pub station : recipient < r .plan .stations
-  pub other : sender ≡ recipient → ⊥
+-- the others of a planned line are its sound stations but i
+pub others-are : (plan : Plan) (i j : ℕ) → Planned plan → i < plan .stations
+    → has (others plan i) j ≡ (sound plan j && not (eqb i j))
+unfolding others sound
+others-are plan i j p h =
+    let w : plan .stations ≤ 63 = omega (arith, p .stations .1) in
+    rw (has-minus, has-minus, has-all (plan .stations) j w, has-only i j (omega arith)) refl
 
--- by rule 11
-ends-of : (r : Run) (sender recipient round : ℕ) → badEnds (r .plan .stations) (r .plan .faulty) sender recipient round ≡ false
-    → Ends r sender recipient
-unfolding badEnds
-ends-of r sender recipient round e =
-    let a = neither _ _ e in
-    let b = neither _ (has (r .plan .faulty) recipient) (a .0) in
-    let c = neither _ (eqb sender recipient) (b .0) in
-    let d = neither (leb (r .plan .stations) sender) (leb (r .plan .stations) recipient) (c .0) in
-    record { station = leb-false _ _ (d .1); other = eqb-false _ _ (c .1) }
+-- what holds of its ready and of its relay to each of the others, where it sends one, holds of all that it sends
+pub all-sends : {P : Message → Type 0} (plan : Plan) (time i k : ℕ) (o : Outcome)
+    → (o .ready ≡ true → (j : ℕ) → has (others plan i) j ≡ true → P (toward (readyOf time i k) j))
+    → ((o .relay ≡ 0 → ⊥) → (j : ℕ) → has (others plan i) j ≡ true → P (toward (relayOf time i k (o .relay)) j))
+    → All P (sends plan time i k o)
+unfolding sends
+all-sends {P} plan time i k o readies relays = all-append (ready (o .ready) refl) (relay (eqb (o .relay) 0) refl)
+  where
+    ready : (b : Bool) → o .ready ≡ b → All P (pick b (sentTo (readyOf time i k) maxStations (others plan i)) [])
+    ready true e = all-sentTo (readyOf time i k) maxStations (others plan i) (λ j l u. readies e j u)
+    ready false e = noMember
 
--- of an accepted deliver
-pub deliver-ends : (r : Run) (sender recipient round kind : ℕ) (increments : List ℕ)
-    → Accepted r (Deliver sender recipient round kind) increments → Ends r sender recipient
-unfolding barred
-deliver-ends r sender recipient round kind increments h = ends-of r sender recipient round (neither _ (ltb 1 kind) (h .allowed) .0)
-
--- of an accepted faulty send
-pub send-ends : (r : Run) (sender recipient round signers : ℕ) (increments : List ℕ)
-    → Accepted r (Send sender recipient round signers) increments → Ends r sender recipient
-unfolding barred
-send-ends r sender recipient round signers increments h =
-    ends-of r sender recipient round (neither _ (eqb signers 0) (neither _ _ (h .allowed) .0) .0)
+    relay : (b : Bool) → eqb (o .relay) 0 ≡ b
+        → All P (pick b [] (sentTo (relayOf time i k (o .relay)) maxStations (others plan i)))
+    relay true e = noMember
+    relay false e =
+        all-sentTo (relayOf time i k (o .relay)) maxStations (others plan i) (λ j l u. relays (eqb-false _ _ e) j u)
 
 -- ---- advance
 
 -- each clock has gone on by its increment
-moved-at : (ss : List Station) (increments : List ℕ) (i : ℕ) → i < length ss → i < length increments
+pub moved-at : (ss : List Station) (increments : List ℕ) (i : ℕ) → i < length ss → i < length increments
     → getD (movedAll ss increments) i noStation ≡ move (getD increments i 0) (getD ss i noStation)
 unfolding movedAll
 moved-at [] increments i h l = absurd (omega arith)
@@ -146,11 +132,11 @@ moved-at (s ∷ ss) (x ∷ xs) zero h l = refl
 moved-at (s ∷ ss) (x ∷ xs) (suc i) h l = moved-at ss xs i (omega arith) (omega arith)
 
 -- and there are as many stations
-length-moved : (ss : List Station) (increments : List ℕ) → length (movedAll ss increments) ≡ length ss
+pub moved-length : (ss : List Station) (increments : List ℕ) → length (movedAll ss increments) ≡ length ss
 unfolding movedAll
-length-moved [] increments = refl
-length-moved (s ∷ ss) [] = refl
-length-moved (s ∷ ss) (x ∷ xs) = ap suc (length-moved ss xs)
+moved-length [] increments = refl
+moved-length (s ∷ ss) [] = refl
+moved-length (s ∷ ss) (x ∷ xs) = ap suc (moved-length ss xs)
 
 -- what station i does in an advance: its clock goes on, and it signs where that brings it up to the mark
 abbrev pub advanceAt : Run → List ℕ → ℕ → Outcome
@@ -163,13 +149,13 @@ advanceSends r d increments (suc k) =
     advanceSends r d increments k ++ sends (r .plan) (r .time + d) k (waits (stationAt r k)) (advanceAt r increments k)
 
 -- the clocks and the time have moved, and the first k stations have signed where they landed
-record Signed (r : Run) (d : ℕ) (increments : List ℕ) (k : ℕ) (after : Run) : Type 0 where
-  plan : after .plan ≡ r .plan
-  time : after .time ≡ r .time + d
-  stations : length (after .stations) ≡ length (r .stations)
-  done : (i : ℕ) → i < k → stationAt after i ≡ advanceAt r increments i .station
-  next : (i : ℕ) → k ≤ i → i < length (r .stations) → stationAt after i ≡ move (getD increments i 0) (stationAt r i)
-  flight : after .flight ≡ r .flight ++ advanceSends r d increments k
+pub record Signed (r : Run) (d : ℕ) (increments : List ℕ) (k : ℕ) (after : Run) : Type 0 where
+  pub plan : after .plan ≡ r .plan
+  pub time : after .time ≡ r .time + d
+  pub stations : length (after .stations) ≡ length (r .stations)
+  pub done : (i : ℕ) → i < k → stationAt after i ≡ advanceAt r increments i .station
+  pub next : (i : ℕ) → k ≤ i → i < length (r .stations) → stationAt after i ≡ move (getD increments i 0) (stationAt r i)
+  pub flight : after .flight ≡ r .flight ++ advanceSends r d increments k
 
 module _ (r : Run) (d : ℕ) (increments : List ℕ) (all : length increments ≡ length (r .stations)) where
   -- before any has signed
@@ -178,7 +164,7 @@ module _ (r : Run) (d : ℕ) (increments : List ℕ) (all : length increments �
   signed-none = record {
     plan = refl;
     time = refl;
-    stations = length-moved (r .stations) increments;
+    stations = moved-length (r .stations) increments;
     done = λ i h. absurd (omega arith);
     next = λ i l h. moved-at (r .stations) increments i h (omega arith);
     flight = sym (append-nil (r .flight));
@@ -231,7 +217,7 @@ module _ (r : Run) (d : ℕ) (increments : List ℕ) (all : length increments �
     }
 
   -- the first k have signed where they landed
-  signed-to : (k : ℕ) → k ≤ length (r .stations) → Signed r d increments k (signTo k r increments (moves d increments r))
+  pub signed-to : (k : ℕ) → k ≤ length (r .stations) → Signed r d increments k (signTo k r increments (moves d increments r))
   unfolding signTo
   signed-to zero h = signed-none
   signed-to (suc k) h = go (landsAt r increments k) refl (signed-to k (omega arith))
@@ -245,33 +231,21 @@ module _ (r : Run) (d : ℕ) (increments : List ℕ) (all : length increments �
 reading-settle : (ready : Bool) (plan : Plan) (s : Station)
     → settle ready plan s .station .reading .0
     ≡ pick (eqb (settle ready plan s .station .round) (s .round)) (s .reading .0) (markFor plan s + plan .step)
-unfolding settle start
-reading-settle ready plan s = go (complete plan s)
-  where
-    outcome : Bool → Outcome
-    outcome b =
-        pick b (record { station = start plan s; ready = ready; relay = s .gathered })
-        (record { station = s; ready = ready; relay = 0 })
-
-    go : (b : Bool) → outcome b .station .reading .0
-        ≡ pick (eqb (outcome b .station .round) (s .round)) (s .reading .0) (markFor plan s + plan .step)
-    go true = rw (ne-eqb (waits s) (s .round) (λ q. omega arith)) refl
-    go false = rw (eq-eqb (s .round) (s .round) refl) refl
+unfolding start
+reading-settle ready plan s =
+    settle-either
+    (λ o. o .station .reading .0 ≡ pick (eqb (o .station .round) (s .round)) (s .reading .0) (markFor plan s + plan .step)) ready plan s
+    (λ e. rw (ne-eqb (waits s) (s .round) (λ q. omega arith)) refl) (λ e. rw (eq-eqb (s .round) (s .round) refl) refl)
 
 -- and so does one that advances, but for its increment
 reading-advance : (plan : Plan) (i by : ℕ) (s : Station)
     → advance plan i by s .station .reading .0
     ≡ pick (eqb (advance plan i by s .station .round) (s .round)) (s .reading .0 + by) (markFor plan s + plan .step)
-unfolding advance sign move still
-reading-advance plan i by s = go (lands plan by s)
-  where
-    outcome : Bool → Outcome
-    outcome b = pick b (sign plan i (move by s)) (still (move by s))
-
-    go : (b : Bool) → outcome b .station .reading .0
-        ≡ pick (eqb (outcome b .station .round) (s .round)) (s .reading .0 + by) (markFor plan s + plan .step)
-    go true = reading-settle true plan _
-    go false = rw (eq-eqb (s .round) (s .round) refl) refl
+unfolding sign move still
+reading-advance plan i by s =
+    advance-either
+    (λ o. o .station .reading .0 ≡ pick (eqb (o .station .round) (s .round)) (s .reading .0 + by) (markFor plan s + plan .step)) plan i by s
+    (λ e. reading-settle true plan _) (rw (eq-eqb (s .round) (s .round) refl) refl)
 
 module _ (r : Run) (d : ℕ) (increments : List ℕ) (h : eventAnswer r (Advance d) increments ≡ 0) where
   -- all have signed where they landed
@@ -279,8 +253,8 @@ module _ (r : Run) (d : ℕ) (increments : List ℕ) (h : eventAnswer r (Advance
   unfolding effect
   advanced =
       let a = accepted r (Advance d) increments h in
-      let v = valid-record r (a .valid) in
-      let n = advance-way r d increments a .1 in
+      let long = a .0 .rules .long in
+      let w = advances r increments d (a .1) .long in
       rw (step-accepted r (Advance d) increments h) (signed-to r d increments (omega arith) (r .plan .stations) (omega arith))
 
   -- time moves by d
@@ -289,7 +263,7 @@ module _ (r : Run) (d : ℕ) (increments : List ℕ) (h : eventAnswer r (Advance
 
   -- which is later
   pub advance-later : r .time < step r (Advance d) increments .time
-  advance-later = omega (arith, advance-time, advance-way r d increments (accepted r (Advance d) increments h) .0)
+  advance-later = omega (arith, advance-time, advances r increments d (accepted r (Advance d) increments h .1) .span .0)
 
   -- station i afterwards: its clock has gone on, and it has signed where that brought it up to the mark
   pub advance-station : (i : ℕ) → i < r .plan .stations
@@ -395,19 +369,6 @@ abbrev pub messageNamed : Run → ℕ → ℕ → ℕ → ℕ → Message
 messageNamed r sender recipient round kind =
     getD (r .flight) (indexOf (namesOf sender recipient round kind) (r .flight)) noMessage
 
--- what a station sends has it as its sender
-sends-sender : (plan : Plan) (time i k : ℕ) (o : Outcome) → All (λ m. m .sender ≡ i) (sends plan time i k o)
-unfolding sends
-sends-sender plan time i k o = all-append (ready (o .ready)) (relay (eqb (o .relay) 0))
-  where
-    ready : (b : Bool) → All (λ m. m .sender ≡ i) (pick b (sentTo (readyOf time i k) maxStations (others plan i)) [])
-    ready true = all-sentTo (readyOf time i k) maxStations (others plan i) (λ j l m. refl)
-    ready false = noMember
-
-    relay : (b : Bool) → All (λ m. m .sender ≡ i) (pick b [] (sentTo (relayOf time i k (o .relay)) maxStations (others plan i)))
-    relay true = noMember
-    relay false = all-sentTo (relayOf time i k (o .relay)) maxStations (others plan i) (λ j l m. refl)
-
 -- a message that differs in a name from one with these names does not have them
 other-names : (x : Names) (a b : Message) → named x a ≡ true → sameNames a b ≡ false → named x b ≡ false
 other-names x a b e f = differs x b same
@@ -448,14 +409,13 @@ named-gone x ms i first h e = all-of (without i ms) noMessage (λ j l. left j (o
 
 module _ (r : Run) (sender recipient round kind : ℕ) (increments : List ℕ)
     (h : eventAnswer r (Deliver sender recipient round kind) increments ≡ 0) where
-  -- the message is in flight
-  pub deliver-there : indexOf (namesOf sender recipient round kind) (r .flight) < length (r .flight)
-  unfolding eventRules
-  deliver-there =
-      let a = accepted r (Deliver sender recipient round kind) increments h in
-      let e = refuse-none (eqb (indexOf (namesOf sender recipient round kind) (r .flight)) (length (r .flight))) 15 _ (a .rules) in
-      let ne : indexOf (namesOf sender recipient round kind) (r .flight) ≡ length (r .flight) → ⊥ = eqb-false _ _ (e .0) in
-      omega (arith, ne, indexOf-most (namesOf sender recipient round kind) (r .flight))
+  -- it met a valid record
+  valid : Valid r
+  valid = accepted r (Deliver sender recipient round kind) increments h .0
+
+  -- and its table refuses nothing
+  pub delivered : Delivers r sender recipient round kind increments
+  delivered = delivers r increments sender recipient round kind (accepted r (Deliver sender recipient round kind) increments h .1)
 
   -- it leaves the flight, and its recipient hears it
   pub deliver-is : step r (Deliver sender recipient round kind) increments
@@ -466,9 +426,7 @@ module _ (r : Run) (sender recipient round kind : ℕ) (increments : List ℕ)
 
   -- its recipient is in the table
   deliver-end : recipient < length (r .stations)
-  deliver-end =
-      let a = accepted r (Deliver sender recipient round kind) increments h in
-      omega (arith, deliver-ends r sender recipient round kind increments a .station, valid-record r (a .valid) .stations)
+  deliver-end = omega (arith, delivered .ends .to .line, valid .rules .long)
 
   -- its recipient afterwards
   pub deliver-station : stationAt (step r (Deliver sender recipient round kind) increments) recipient
@@ -486,12 +444,10 @@ module _ (r : Run) (sender recipient round kind : ℕ) (increments : List ℕ)
   pub deliver-gone : All (λ m. named (namesOf sender recipient round kind) m ≡ false)
       (step r (Deliver sender recipient round kind) increments .flight)
   deliver-gone =
-      let a = accepted r (Deliver sender recipient round kind) increments h in
-      let ends = deliver-ends r sender recipient round kind increments a in
       rw deliver-is
-      (all-append (named-gone (namesOf sender recipient round kind) (r .flight) _ refl deliver-there (valid-record r (a .valid) .apart))
-      (all-map (λ m e. differs (namesOf sender recipient round kind) m (λ g. ends .other (sym (g .sender) ∙ e)))
-      (sends-sender (r .plan) (r .time) recipient _ _)))
+      (all-append (named-gone (namesOf sender recipient round kind) (r .flight) _ refl (delivered .found) (valid .rules .single))
+      (all-map (λ m e. differs (namesOf sender recipient round kind) m (λ g. delivered .ends .apart (sym (g .sender) ∙ e)))
+      (all-sends (r .plan) (r .time) recipient _ _ (λ e j u. refl) (λ e j u. refl))))
 
   -- with f + 1 distinct signatures of the waited round its recipient starts that round in the same event
   pub deliver-starts : round ≡ waits (stationAt r recipient)
@@ -517,6 +473,10 @@ module _ (r : Run) (sender recipient round kind : ℕ) (increments : List ℕ)
 
 module _ (r : Run) (sender recipient round signers : ℕ) (increments : List ℕ)
     (h : eventAnswer r (Send sender recipient round signers) increments ≡ 0) where
+  -- its table refuses nothing
+  pub faulty-sent : FaultySends r sender recipient round signers increments
+  faulty-sent = faulty-sends r increments sender recipient round signers (accepted r (Send sender recipient round signers) increments h .1)
+
   -- its recipient hears it at once
   pub send-is : step r (Send sender recipient round signers) increments ≡ heardRun r (r .flight) recipient round signers
   unfolding effect hearAt become
@@ -524,9 +484,7 @@ module _ (r : Run) (sender recipient round signers : ℕ) (increments : List ℕ
 
   -- its recipient is in the table
   send-end : recipient < length (r .stations)
-  send-end =
-      let a = accepted r (Send sender recipient round signers) increments h in
-      omega (arith, send-ends r sender recipient round signers increments a .station, valid-record r (a .valid) .stations)
+  send-end = omega (arith, faulty-sent .ends .to .line, accepted r (Send sender recipient round signers) increments h .0 .rules .long)
 
   -- its recipient afterwards
   pub send-station : stationAt (step r (Send sender recipient round signers) increments) recipient ≡ heard r recipient round signers .station

@@ -14,7 +14,8 @@ use borrow.Author.Tests.{ltb-true, ltb-false, eqb-true, eqb-false, not-true, not
 use Rattle.clock.specs.Limits.{maxTime, maxRound, maxReading, maxFlight}
 use Rattle.clock.specs.Pick.{pick}
 use Rattle.clock.specs.Tests.{outside, both, neither, inside, not-outside, some-each}
-use Rattle.mask.specs.Mask.{has, countTo, count, below}
+use Rattle.mask.specs.Mask.{has, count, below}
+use Rattle.mask.specs.Laws.{count-none}
 use Rattle.setup.specs.declared.Plan.{Plan}
 use Rattle.setup.specs.Setup.{planAnswer, badFirst, setupAnswer}
 use Rattle.setup.specs.Laws.{Planned, planned, accepted}
@@ -303,7 +304,6 @@ fresh-length (x ∷ first) = ap suc (fresh-length first)
 
 -- a first reading from A to A + T is below the mark of round 1, by the gap rule
 pub fresh-ruled : (plan : Plan) (x : ℕ) → Planned plan → x ≤ plan .step + plan .bound → Ruled plan (freshStation x)
-unfolding count countTo has
 fresh-ruled plan x p h =
     let low : x < plan .period = omega (arith, p .gap .0, p .gap .1) in
     record {
@@ -313,7 +313,7 @@ fresh-ruled plan x p h =
       past = λ l. absurd (omega arith);
       before = λ l. omega arith;
       gathered = pow-pos (plan .stations);
-      few = omega arith;
+      few = omega (arith, count-none);
     }
 
 -- a fresh run of an accepted setup is valid

@@ -2,8 +2,8 @@
 -- names that no message in flight has, and the others' rules are not touched. Hearing is one such step, and an advance is a
 -- move after which the stations that landed are yet to sign, and one such step for each of them in order.
 use Prim.Native.Nat.{ℕ, zero, suc, _+_, _*_, _^_, _<_, _≤_}
-use mathlib.Core.Bool.{Bool, true, false, _&&_}
-use mathlib.Core.List.{List, [], _∷_, _++_}
+use mathlib.Core.Bool.{Bool, true, false, _&&_, not}
+use mathlib.Core.List.{List, [], _++_}
 use mathlib.Core.Path.{_≡_, refl, ap, sym, _∙_}
 use native.Mathlib.Decide.{decLt, decLe}
 use native.Mathlib.Nat.{mul-le-mul}
@@ -12,28 +12,29 @@ use lib.Dec.{ltb, leb, eqb}
 use lib.ListN.{length, getD, set, length-set}
 use lib.Seq.{getD-set-same, getD-set-other}
 use lib.Pow.{pow-pos}
-use borrow.Author.Tests.{ltb-true, ltb-false, eqb-true, eqb-false, not-true, lt-ltb, le-leb, lt-leb}
+use borrow.Author.Tests.{eqb-true, eqb-false, not-true, lt-ltb, le-leb, lt-leb}
 use Rattle.clock.specs.Limits.{maxStations, maxRound, maxReading, maxPeriod}
-use Rattle.clock.specs.Pick.{pick, refuse-none}
+use Rattle.clock.specs.Pick.{pick}
 use Rattle.clock.specs.Tests.{both}
-use Rattle.mask.specs.Mask.{has, countTo, count, below, join, only, all, minus}
-use Rattle.mask.specs.Laws.{has-minus, has-all, has-only, join-lt, only-lt}
+use Rattle.mask.specs.Mask.{has, join, only}
+use Rattle.mask.specs.Laws.{count-none, join-lt, only-some, only-lt}
 use Rattle.setup.specs.declared.Plan.{Plan}
 use Rattle.setup.specs.Laws.{Planned}
 use Rattle.station.specs.declared.Station.{Station}
 use Rattle.station.specs.declared.Outcome.{Outcome}
-use Rattle.station.specs.Station.{waits, markFor, still, complete, start, settle, gather, hear, sign, move, lands}
+use Rattle.station.specs.Station.{waits, markFor, still, start, settle, gather, hear, sign, move, lands}
 use Rattle.flight.specs.declared.Message.{Message}
 use Rattle.flight.specs.Message.{namesOf, sameNames, noMessage, toward, sentTo, twins}
 use Rattle.flight.specs.Members.{All, noMember, all-append, all-map, all-at, all-sentTo, all-without, Agree, differs}
 use Rattle.flight.specs.Apart.{twins-append, twins-sentTo, twins-without}
 use Rattle.event.specs.declared.Event.{Event}
 use Rattle.event.specs.declared.Event.the-variants.{Advance, Deliver, Send}
-use Rattle.line.specs.Run.{Run, noStation, stationAt, others, readyOf, relayOf, sends, become, signAt, hearAt, movedAll, moves, landsAt, signTo}
+use Rattle.line.specs.Run.{Run, sound, noStation, stationAt, others, readyOf, relayOf, sends, become, signAt, hearAt, movedAll, moves, landsAt, signTo}
 use Rattle.line.specs.Record.{badRecord}
 use Rattle.line.specs.Event.{takeOut, deliverAt, effect, stepAnswer, eventAnswer, step}
-use Rattle.line.specs.Valid.{Sound, Ruled, Due, OnItsWay, Between, none, Valid, valid-is, is-valid}
-use Rattle.line.specs.Allowed.{Advances, second-fails, advances, delivers, faulty-sends}
+use Rattle.line.specs.Valid.{Sound, Ruled, Due, OnItsWay, Between, none, Valid, sound-is, is-valid}
+use Rattle.line.specs.Allowed.{Advances, second-fails, accepted, advances, delivers, faulty-sends}
+use Rattle.line.specs.Moves.{settle-either, hear-either, lands-is, others-are, all-sends, moved-at, moved-length, signed-to}
 
 -- ---- a station's step
 
@@ -49,7 +50,7 @@ pub record Does (plan : Plan) (s : Station) (o : Outcome) : Type 0 where
 module _ (plan : Plan) (p : Planned plan) where
   -- a start keeps the rules: A is less than P, so the reading is below the next mark
   pub start-ruled : (t : Station) → waits t ≤ maxRound → t .signed ≤ waits t → Ruled plan (start plan t)
-  unfolding start count countTo has
+  unfolding start
   start-ruled t r s =
       let m : markFor plan t ≤ maxRound * maxPeriod = mul-le-mul {n₂ = maxRound} {m₂ = maxPeriod} r (p .limits .period .1) in
       record {
@@ -59,7 +60,7 @@ module _ (plan : Plan) (p : Planned plan) where
         past = λ l. absurd (omega (arith, p .gap .0));
         before = λ l. omega arith;
         gathered = pow-pos (plan .stations);
-        few = omega arith;
+        few = omega (arith, count-none);
       }
 
   -- a station that has gathered and now starts or waits on
@@ -68,27 +69,26 @@ module _ (plan : Plan) (p : Planned plan) where
       (past : markFor plan t ≤ t .reading .0 → t .signed ≡ waits t) (before : t .reading .0 < markFor plan t → t .signed < waits t)
       (gathered : t .gathered < 2 ^ plan .stations)
       (own : ready ≡ true → (s .signed < waits s) × (waits s ≤ t .signed)) where
+    -- it has signed no round after the one it waits for
     most : t .signed ≤ waits t
     most = elim (decLe (markFor plan t) (t .reading .0)) [
       | yes h ↦ omega (arith, past h)
       | no h ↦ omega (arith, before (omega arith))
     ]
 
+    -- either keeps the rules
     pub settle-does : Does plan s (settle ready plan t)
-    unfolding settle complete start
-    settle-does = go (complete plan t) refl
-      where
-        go : (b : Bool) → complete plan t ≡ b
-            → Does plan s (pick b (record { station = start plan t; ready = ready; relay = t .gathered })
-            (record { station = t; ready = ready; relay = 0 }))
-        go true e = record {
+    unfolding start
+    settle-does =
+        settle-either (Does plan s) ready plan t
+        (λ e. record {
           rules = start-ruled t r most;
           signed = grows;
           round = omega arith;
           ready = own;
           relay = λ h. (omega arith, gathered);
-        }
-        go false e = record {
+        })
+        (λ e. record {
           rules = record {
             round = omega arith;
             reading = reading;
@@ -96,32 +96,30 @@ module _ (plan : Plan) (p : Planned plan) where
             past = past;
             before = before;
             gathered = gathered;
-            few = ltb-false _ _ e;
+            few = e;
           };
           signed = grows;
           round = omega arith;
           ready = own;
           relay = λ h. absurd (h refl);
-        }
+        })
 
   -- hearing
   pub hear-does : (s : Station) (round signers : ℕ) → Ruled plan s → round ≤ maxRound → signers < 2 ^ plan .stations
       → Does plan s (hear plan round signers s)
-  unfolding hear gather still
-  hear-does s round signers h l g = go (eqb round (waits s)) refl
-    where
-      go : (b : Bool) → eqb round (waits s) ≡ b → Does plan s (pick b (settle false plan (gather signers s)) (still s))
-      go true e =
-          let q = eqb-true round (waits s) e in
-          settle-does s (gather signers s) false refl (omega arith) (omega arith) (h .reading) (h .past) (h .before)
-          (join-lt (plan .stations) (s .gathered) signers (h .gathered) g) (λ f. let z : _≡_ {A = ℕ} 0 1 = cc in absurd (omega arith))
-      go false e = record {
+  unfolding gather still
+  hear-does s round signers h l g =
+      hear-either (Does plan s) plan round signers s
+      (λ q.
+      settle-does s (gather signers s) false refl (omega arith) (omega arith) (h .reading) (h .past) (h .before)
+      (join-lt (plan .stations) (s .gathered) signers (h .gathered) g) (λ f. let z : _≡_ {A = ℕ} 0 1 = cc in absurd (omega arith)))
+      (record {
         rules = h;
         signed = omega arith;
         round = omega arith;
         ready = λ f. let z : _≡_ {A = ℕ} 0 1 = cc in absurd (omega arith);
         relay = λ f. absurd (f refl);
-      }
+      })
 
   -- signing at the mark
   pub sign-does : (s : Station) (i : ℕ) → Due plan s → i < plan .stations → Does plan s (sign plan i s)
@@ -133,20 +131,12 @@ module _ (plan : Plan) (p : Planned plan) where
 
 -- ---- what it sends
 
--- the other sound stations
+-- each of the others is a sound station, and another
 pub others-sound : (plan : Plan) → Planned plan → (i j : ℕ) → i < plan .stations → has (others plan i) j ≡ true
     → Sound plan j × (i ≡ j → ⊥)
-unfolding others
 others-sound plan p i j l e =
-    let most : plan .stations ≤ maxStations = p .stations .1 in
-    let a = both _ _ (sym (has-minus (minus (all (plan .stations)) (plan .faulty)) (only i) j) ∙ e) in
-    let b = both _ _ (sym (has-minus (all (plan .stations)) (plan .faulty) j) ∙ a .0) in (
-      record {
-        line = ltb-true j (plan .stations) (sym (has-all (plan .stations) j (omega arith)) ∙ b .0);
-        unmarked = not-true _ (b .1);
-      },
-      eqb-false i j (sym (has-only i j (omega arith)) ∙ not-true _ (a .1)),
-    )
+    let b = both (sound plan j) (not (eqb i j)) (sym (others-are plan i j p l) ∙ e) in
+    (sound-is plan j (b .0), eqb-false i j (not-true _ (b .1)))
 
 -- a message that station i, as it was before its step, sends of the round it waited for: where it is a ready, it had not
 -- signed that round
@@ -156,85 +146,59 @@ pub record New (plan : Plan) (time : ℕ) (stations : List Station) (i : ℕ) (s
   pub round : m .round ≡ waits s
   pub unsigned : m .kind ≡ 0 → s .signed < waits s
 
--- one's own signature is not an empty mask
-only-some : (i : ℕ) → i < 64 → only i ≡ 0 → ⊥
-unfolding only
-only-some i h e =
-    let t = lt-ltb i 64 h in
-    let z : 2 ^ i ≡ 0 = rw t at e in
-    omega (arith, pow-pos i)
-
 module _ (plan : Plan) (p : Planned plan) (time : ℕ) (stations : List Station) (long : length stations ≡ plan .stations)
     (i : ℕ) (h : Sound plan i) (o : Outcome) (d : Does plan (getD stations i noStation) o) where
   -- every message that it sends keeps the rules of the stations after its step
   pub sends-new : All (New plan time (set stations i (o .station)) i (getD stations i noStation))
       (sends plan time i (waits (getD stations i noStation)) o)
-  unfolding sends
-  sends-new = all-append (readies (o .ready) refl) (relays (eqb (o .relay) 0) refl)
+  sends-new =
+      all-sends plan time i (waits s) o
+      (λ e j u.
+      let g = d .ready e in
+      let t = others-sound plan p i j (h .line) u in
+      record {
+        way = record {
+          round = (omega arith, omega (arith, g .1, d .rules .signed));
+          kind = omega arith;
+          signed = only-some i (omega (arith, h .line, p .stations .1));
+          signers = only-lt i (plan .stations) (h .line);
+          sender = h;
+          recipient = t .0;
+          apart = t .1;
+          sent = omega arith;
+          ready = λ q. rw stands (g .1);
+          relay = λ q. absurd (q refl);
+        };
+        sender = refl;
+        round = refl;
+        unsigned = λ q. g .0;
+      })
+      (λ z j u.
+      let g = d .relay z in
+      let t = others-sound plan p i j (h .line) u in
+      record {
+        way = record {
+          round = (omega arith, omega (arith, g .0, d .rules .round));
+          kind = omega arith;
+          signed = z;
+          signers = g .1;
+          sender = h;
+          recipient = t .0;
+          apart = t .1;
+          sent = omega arith;
+          ready = λ q. absurd (omega arith);
+          relay = λ q. rw stands (g .0);
+        };
+        sender = refl;
+        round = refl;
+        unsigned = λ q. absurd (omega arith);
+      })
     where
       s : Station
       s = getD stations i noStation
 
-      after : List Station
-      after = set stations i (o .station)
-
-      stands : getD after i noStation ≡ o .station
+      stands : getD (set stations i (o .station)) i noStation ≡ o .station
       stands = getD-set-same stations i (o .station) noStation (omega (arith, h .line))
-
-      few : plan .stations ≤ maxStations
-      few = p .stations .1
-
-      readies : (b : Bool) → o .ready ≡ b → All (New plan time after i s) (pick b (sentTo (readyOf time i (waits s)) maxStations (others plan i)) [])
-      readies true e =
-          let g = d .ready e in
-          all-sentTo (readyOf time i (waits s)) maxStations (others plan i)
-          (λ j l u.
-          let t = others-sound plan p i j (h .line) u in
-          record {
-            way = record {
-              round = (omega arith, omega (arith, g .1, d .rules .signed));
-              kind = omega arith;
-              signed = only-some i (omega (arith, h .line, few));
-              signers = only-lt i (plan .stations) (h .line);
-              sender = h;
-              recipient = t .0;
-              apart = t .1;
-              sent = omega arith;
-              ready = λ q. rw stands (g .1);
-              relay = λ q. absurd (q refl);
-            };
-            sender = refl;
-            round = refl;
-            unsigned = λ q. g .0;
-          })
-      readies false e = noMember
-
-      relays : (b : Bool) → eqb (o .relay) 0 ≡ b
-          → All (New plan time after i s) (pick b [] (sentTo (relayOf time i (waits s) (o .relay)) maxStations (others plan i)))
-      relays true e = noMember
-      relays false e =
-          let z = eqb-false (o .relay) 0 e in
-          let g = d .relay z in
-          all-sentTo (relayOf time i (waits s) (o .relay)) maxStations (others plan i)
-          (λ j l u.
-          let t = others-sound plan p i j (h .line) u in
-          record {
-            way = record {
-              round = (omega arith, omega (arith, g .0, d .rules .round));
-              kind = omega arith;
-              signed = z;
-              signers = g .1;
-              sender = h;
-              recipient = t .0;
-              apart = t .1;
-              sent = omega arith;
-              ready = λ q. absurd (omega arith);
-              relay = λ q. rw stands (g .0);
-            };
-            sender = refl;
-            round = refl;
-            unsigned = λ q. absurd (omega arith);
-          })
 
 -- no two of them agree in all four names
 pub sends-single : (plan : Plan) (time i k : ℕ) (o : Outcome) → twins (sends plan time i k o) ≡ false
@@ -387,22 +351,6 @@ deliver-between r v i recipient round h s l =
 
 -- ---- advancing
 
--- each station as its increment moves it
-moved-at : (ss : List Station) (xs : List ℕ) (i : ℕ) → length xs ≡ length ss → i < length ss
-    → getD (movedAll ss xs) i noStation ≡ move (getD xs i 0) (getD ss i noStation)
-unfolding movedAll
-moved-at [] xs i e h = absurd (omega arith)
-moved-at (s ∷ ss) [] i e h = absurd (omega arith)
-moved-at (s ∷ ss) (x ∷ xs) zero e h = refl
-moved-at (s ∷ ss) (x ∷ xs) (suc i) e h = moved-at ss xs i (omega arith) (omega arith)
-
--- as many as there were
-moved-length : (ss : List Station) (xs : List ℕ) → length (movedAll ss xs) ≡ length ss
-unfolding movedAll
-moved-length [] xs = refl
-moved-length (s ∷ ss) [] = refl
-moved-length (s ∷ ss) (x ∷ xs) = ap suc (moved-length ss xs)
-
 -- a station that comes up to its mark is due to sign, and any other keeps the rules
 pub move-rules : (plan : Plan) (by : ℕ) (s : Station) → Ruled plan s → s .reading .0 + by ≤ maxReading
     → (s .round ≡ maxRound → s .reading .0 + by < markFor plan s)
@@ -413,9 +361,8 @@ move-rules plan by s h most last mark = go (lands plan by s) refl
   where
     go : (b : Bool) → lands plan by s ≡ b → pick b (Due plan (move by s)) (Ruled plan (move by s))
     go true e =
-        let t = both (ltb (s .reading .0) (markFor plan s)) (eqb (s .reading .0 + by) (markFor plan s)) e in
-        let low = ltb-true (s .reading .0) (markFor plan s) (t .0) in
-        let at = eqb-true (s .reading .0 + by) (markFor plan s) (t .1) in
+        let t = lands-is plan by s e in
+        let at = t .1 in
         record {
           round = elim (decLt (s .round) maxRound) [
             | yes l ↦ omega arith
@@ -423,7 +370,7 @@ move-rules plan by s h most last mark = go (lands plan by s) refl
           ];
           reading = most;
           at = at;
-          unsigned = h .before low;
+          unsigned = h .before (t .0);
           gathered = h .gathered;
         }
     go false e = elim (decLt (s .reading .0) (markFor plan s)) [
@@ -475,7 +422,7 @@ module _ (r : Run) (d : ℕ) (increments : List ℕ) (v : Between none r) (a : A
   }
     where
       at : (i : ℕ) → i < r .plan .stations → getD (movedAll (r .stations) increments) i noStation ≡ move (getD increments i 0) (stationAt r i)
-      at i h = moved-at (r .stations) increments i (omega (arith, a .long, v .long)) (omega (arith, v .long))
+      at i h = moved-at (r .stations) increments i (omega (arith, v .long)) (omega (arith, a .long))
 
 -- the rules with other names for those that are yet to sign
 pub between-same : (due left : ℕ → Bool) (r : Run) → Between due r → ((i : ℕ) → i < r .plan .stations → left i ≡ due i) → Between left r
@@ -522,48 +469,45 @@ landed-here r increments k i h = let e = le-leb k i h in rw e refl
 module _ (r : Run) (d : ℕ) (increments : List ℕ) (v : Between none r) (a : Advances r d increments) where
   -- no faulty station lands: its reading and its increment are zero, and its mark is not
   pub landed-sound : (k : ℕ) → k < r .plan .stations → landsAt r increments k ≡ true → has (r .plan .faulty) k ≡ false
-  unfolding landsAt lands
+  unfolding landsAt
   landed-sound k h e = go (has (r .plan .faulty) k) refl
     where
       go : (b : Bool) → has (r .plan .faulty) k ≡ b → b ≡ false
       go true u =
           let s = v .faulty k h u in
           let x = a .faulty k h u in
-          let t = both (ltb (stationAt r k .reading .0) (markFor (r .plan) (stationAt r k)))
-          (eqb (stationAt r k .reading .0 + getD increments k 0) (markFor (r .plan) (stationAt r k))) e in
-          let m = eqb-true (stationAt r k .reading .0 + getD increments k 0) (markFor (r .plan) (stationAt r k)) (t .1) in
+          let m = lands-is (r .plan) (getD increments k 0) (stationAt r k) e .1 in
           let z : 0 + 0 ≡ (0 + 1) * r .plan .period = rw (s, x) at m in
           absurd (omega (arith, v .plan .limits .period .0))
       go false u = refl
 
-  -- after the turns of the first k, those from k on that landed are yet to sign
+  -- the turns of the first k leave the plan
+  turns-plan : (k : ℕ) → k ≤ r .plan .stations → signTo k r increments (moves d increments r) .plan ≡ r .plan
+  turns-plan k h = signed-to r d increments (omega (arith, a .long, v .long)) k (omega (arith, v .long)) .plan
+
+  -- after them, those from k on that landed are yet to sign
   pub signs-between : (k : ℕ) → k ≤ r .plan .stations
       → Between (landedFrom r increments k) (signTo k r increments (moves d increments r))
-      × (signTo k r increments (moves d increments r) .plan ≡ r .plan)
-  unfolding signTo moves signAt become
-  signs-between zero h = (
-    between-same (landsAt r increments) (landedFrom r increments 0) (moves d increments r) (moves-between r d increments v a)
-        (λ i l. landed-here r increments 0 i (omega arith)),
-    refl,
-  )
+  unfolding signTo signAt
+  signs-between zero h =
+      between-same (landsAt r increments) (landedFrom r increments 0) (moves d increments r) (moves-between r d increments v a)
+      (λ i l. landed-here r increments 0 i (omega arith))
   signs-between (suc k) h =
-      go (signTo k r increments (moves d increments r)) (signs-between k (omega arith)) (landsAt r increments k) refl
+      go (signTo k r increments (moves d increments r)) (turns-plan k (omega arith)) (signs-between k (omega arith))
+      (landsAt r increments k) refl
     where
-      go : (now : Run) → Between (landedFrom r increments k) now × (now .plan ≡ r .plan) → (b : Bool) → landsAt r increments k ≡ b
-          → Between (landedFrom r increments (suc k)) (pick b (signAt k now) now) × (pick b (signAt k now) now .plan ≡ r .plan)
-      go now w true e =
-          let p = w .1 in
+      go : (now : Run) → now .plan ≡ r .plan → Between (landedFrom r increments k) now → (b : Bool) → landsAt r increments k ≡ b
+          → Between (landedFrom r increments (suc k)) (pick b (signAt k now) now)
+      go now p w true e =
           let s : Sound (now .plan) k = rw p (record { line = omega arith; unmarked = landed-sound k (omega arith) e }) in
           let l : landedFrom r increments k k ≡ true = landed-here r increments k k (omega arith) ∙ e in
           let t : pick (landedFrom r increments k k) (Due (now .plan) (stationAt now k)) (Ruled (now .plan) (stationAt now k)) =
-          w .0 .stations k s in (
-            become-between (landedFrom r increments k) (landedFrom r increments (suc k)) now (w .0) k s
-                (sign (now .plan) k (stationAt now k)) (sign-does (now .plan) (w .0 .plan) (stationAt now k) k (rw l at t) (s .line))
-                (landed-before r increments (suc k) k (omega arith)) (λ i n. landed-other r increments k i n),
-            p,
-          )
-      go now w false e =
-          (between-same (landedFrom r increments k) (landedFrom r increments (suc k)) now (w .0) (λ i l. each i (eqb i k) refl), w .1)
+          w .stations k s in
+          become-between (landedFrom r increments k) (landedFrom r increments (suc k)) now w k s
+          (sign (now .plan) k (stationAt now k)) (sign-does (now .plan) (w .plan) (stationAt now k) k (rw l at t) (s .line))
+          (landed-before r increments (suc k) k (omega arith)) (λ i n. landed-other r increments k i n)
+      go now p w false e =
+          between-same (landedFrom r increments k) (landedFrom r increments (suc k)) now w (λ i l. each i (eqb i k) refl)
         where
           each : (i : ℕ) (b : Bool) → eqb i k ≡ b → landedFrom r increments (suc k) i ≡ landedFrom r increments k i
           each i true q =
@@ -574,9 +518,9 @@ module _ (r : Run) (d : ℕ) (increments : List ℕ) (v : Between none r) (a : A
   -- after all turns none is
   pub advance-between : Between none (signTo (r .plan .stations) r increments (moves d increments r))
   advance-between =
-      let w = signs-between (r .plan .stations) (omega arith) in
-      let p = w .1 in
-      between-same (landedFrom r increments (r .plan .stations)) none (signTo (r .plan .stations) r increments (moves d increments r)) (w .0)
+      let p = turns-plan (r .plan .stations) (omega arith) in
+      between-same (landedFrom r increments (r .plan .stations)) none (signTo (r .plan .stations) r increments (moves d increments r))
+      (signs-between (r .plan .stations) (omega arith))
       (λ i h. sym (landed-before r increments (r .plan .stations) i (omega (arith, h, ap (λ (x : Plan). x .stations) p))))
 
 -- ---- events
@@ -602,11 +546,11 @@ effect-valid r (Send sender recipient round signers) increments v z =
 
 -- every event leaves a valid record valid
 pub step-valid : (r : Run) (e : Event) (increments : List ℕ) → badRecord r ≡ false → badRecord (step r e increments) ≡ false
-unfolding step eventAnswer
+unfolding step
 step-valid r e increments v = go (eqb (eventAnswer r e increments) 0) refl
   where
     go : (b : Bool) → eqb (eventAnswer r e increments) 0 ≡ b → badRecord (pick b (effect r e increments) r) ≡ false
     go true z =
-        let ten = refuse-none (badRecord r) 9 (stepAnswer r e increments) (eqb-true _ _ z) in
-        is-valid (effect r e increments) (effect-valid r e increments (valid-is r v) (ten .1))
+        let a = accepted r e increments (eqb-true _ _ z) in
+        is-valid (effect r e increments) (effect-valid r e increments (a .0) (a .1))
     go false z = v

@@ -91,6 +91,11 @@ count-below m n h le = go (64 - n) (omega arith)
     go : (k : ℕ) → n + k ≡ 64 → countTo 64 (has m) ≡ countTo n (has m)
     go k e = ap (λ (x : ℕ). countTo x (has m)) (sym e) ∙ use-of k
 
+-- an empty mask counts none
+pub count-none : count 0 ≡ 0
+unfolding countTo
+count-none = count-below 0 0 (omega arith) (omega arith)
+
 -- ---- the sets that are made
 
 differs : Bool → Bool → Bool
@@ -147,6 +152,14 @@ has-power (suc i) (suc j) =
 pub has-only : (i j : ℕ) → i < 64 → has (only i) j ≡ eqb i j
 unfolding only
 has-only i j h = simp (lt-ltb i 64 h) (has-power i j)
+
+-- the set of one station is not empty
+pub only-some : (i : ℕ) → i < 64 → only i ≡ 0 → ⊥
+unfolding only
+only-some i h e =
+    let t = lt-ltb i 64 h in
+    let z : 2 ^ i ≡ 0 = rw t at e in
+    omega (arith, pow-pos i)
 
 pub only-lt : (i n : ℕ) → i < n → only i < 2 ^ n
 unfolding only

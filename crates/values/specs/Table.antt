@@ -8,7 +8,17 @@ use Rattle.number.specs.Number.{ends, numberFrom, readNumber}
 use Rattle.setup.specs.declared.Plan.{Plan}
 use Rattle.setup.specs.Setup.{badStations, badFaults, badLimits, badMarks, gap, steps, spreads, planAnswer, badFirst, firstAnswer, setupAnswer}
 use Rattle.clock.specs.Tests.{some}
-use Rattle.mask.specs.Mask.{has, countTo, count, below}
+use Rattle.mask.specs.Mask.{has, countTo, count, below, join, only, all, minus}
+use Rattle.clock.specs.Drift.{keeps}
+use Rattle.station.specs.Station.{still, complete, start, settle, gather, hear, sign, move, lands, passes, advance}
+use Rattle.station.specs.Record.{badNumbers, badSigned, badGathered, badStation, exceeds}
+use Rattle.flight.specs.Message.{named, messageOf, indexOf, without, sentTo, someOf, late, twins}
+use Rattle.event.specs.declared.Event.the-variants.{Advance}
+use Rattle.event.specs.Event.{badIncrement, badAdvance, badEnds, barred}
+use Rattle.line.specs.Run.{sound, freshStations, fresh, others, sends, become, signAt, hearAt, movedAll, moves, landsAt, signTo}
+use Rattle.line.specs.Record.{badFaulty, badStationAt, someBadStation, badContent, badWay, badRound, badMessage, badRecord}
+use Rattle.line.specs.Event.{takeOut, effect, someStation, exceedsAt, driftsAt, passesAt, unsignedAt, unsigned, full, eventRules, stepAnswer, eventAnswer, step}
+use Rattle.line.specs.History.{told, sumTo, sentBy, taken, deliveredBy, sentIn, deliveredIn}
 
 -- the base with D, A and P left open: n 4, f 1, r 1, T 2,000, no faulty
 abbrev plan : ℕ → ℕ → ℕ → Plan
@@ -17,6 +27,11 @@ plan d a p = record { stations = 4; faults = 1; drift = 1; bound = 2_000; spread
 -- what a plan of four stations is answered, each first reading x
 abbrev answer : Plan → ℕ → ℕ
 answer s x = setupAnswer s (replicate 4 x)
+
+-- what the base's fresh run answers to an advance by 10,000 in which station 0's increment is x, the others' 10,000
+abbrev advanced : ℕ → ℕ
+advanced x =
+    eventAnswer (fresh (plan 2_201 4_202 1_000_000) (replicate 4 4_202)) (Advance 10_000) (x ∷ 10_000 ∷ 10_000 ∷ 10_000 ∷ [])
 
 pub record Values : Type 0 where
   -- base 0; D 2,200 gives 7; A 4,201 gives 6; P 6,203 gives 0, P 6,202 gives 5
@@ -38,9 +53,14 @@ pub record Values : Type 0 where
   -- `80 00` gives 22; `80` alone gives 21
   pub longer : readNumber (0x80 ∷ 0x00 ∷ []) 0 ≡ Refused 22
   pub cut : readNumber (0x80 ∷ []) 0 ≡ Refused 21
+  -- r 1, d 10,000: increments 10,000 and 10,001 pass; 9,999 and 10,002 give 13
+  pub even : advanced 10_000 ≡ 0
+  pub fast : advanced 10_001 ≡ 0
+  pub slow-refused : advanced 9_999 ≡ 13
+  pub fast-refused : advanced 10_002 ≡ 13
 
 pub values : Values
-unfolding readNumber numberFrom ends setupAnswer firstAnswer some badFirst planAnswer badStations badFaults badLimits badMarks gap steps spreads has countTo count below
+unfolding readNumber numberFrom ends setupAnswer firstAnswer some badFirst planAnswer badStations badFaults badLimits badMarks gap steps spreads has countTo count below keeps join only all minus still complete start settle gather hear sign move lands passes advance badNumbers badSigned badGathered badStation exceeds named messageOf indexOf without sentTo someOf late twins badIncrement badAdvance badEnds barred sound freshStations fresh others sends become signAt hearAt movedAll moves landsAt signTo badFaulty badStationAt someBadStation badContent badWay badRound badMessage badRecord takeOut effect someStation exceedsAt driftsAt passesAt unsignedAt unsigned full eventRules stepAnswer eventAnswer step told sumTo sentBy taken deliveredBy sentIn deliveredIn
 values = record {
   base = refl;
   spread = refl;
@@ -53,4 +73,8 @@ values = record {
   faults = refl;
   longer = refl;
   cut = refl;
+  even = refl;
+  fast = refl;
+  slow-refused = refl;
+  fast-refused = refl;
 }

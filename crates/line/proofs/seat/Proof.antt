@@ -1,7 +1,7 @@
 -- `line::seat` puts each station in its place: after i turns the first i. The measure is how many are left. Assumes nothing.
-use Prim.Native.Nat.{ℕ, suc, _+_, _-_, _≤_}
+use Prim.Native.Nat.{ℕ, _+_, _-_, _≤_}
 use mathlib.Core.List.{List}
-use mathlib.Core.Path.{_≡_, ap, sym, _∙_}
+use mathlib.Core.Path.{_≡_, ap, _∙_}
 use native.Mathlib.Numerals.{add-one}
 use denote.Ref.{now}
 use lib.ListN.{length, getD, set, replicate}
