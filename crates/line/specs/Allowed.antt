@@ -24,8 +24,8 @@ use Rattle.event.specs.declared.Event.{Event}
 use Rattle.event.specs.declared.Event.the-variants.{Advance, Deliver, Send}
 use Rattle.event.specs.Event.{badIncrement, badAdvance, badEnds, barred}
 use Rattle.line.specs.Run.{Run, sound, stationAt}
-use Rattle.line.specs.Record.{badRecord}
-use Rattle.line.specs.Event.{namesOf, effect, someStation, exceedsAt, driftsAt, passesAt, unsignedAt, unsigned, full, eventRules, stepAnswer, eventAnswer}
+use Rattle.line.specs.Record.{someStation, badRecord}
+use Rattle.line.specs.Event.{namesOf, effect, exceedsAt, driftsAt, passesAt, unsignedAt, unsigned, full, eventRules, stepAnswer, eventAnswer}
 use Rattle.line.specs.Valid.{Sound, Valid, valid-is, none-station, is-sound}
 
 -- an advance by d that is accepted

@@ -17,7 +17,7 @@ use Rattle.event.specs.declared.Event.{Event}
 use Rattle.event.specs.declared.Event.the-variants.{Advance, Deliver, Send}
 use Rattle.event.specs.Event.{barred}
 use Rattle.line.specs.Run.{Run, sound, stationAt, moves, signTo, hearAt}
-use Rattle.line.specs.Record.{badRecord}
+use Rattle.line.specs.Record.{someStation, badRecord}
 
 -- ---- what an event does
 
@@ -40,11 +40,6 @@ effect r (Deliver sender recipient round kind) increments =
 effect r (Send sender recipient round signers) increments = hearAt recipient round signers r
 
 -- ---- when it is refused
-
--- some of the first k stations has p, which is asked of its number
-unfoldable pub someStation : (ℕ → Bool) → ℕ → Bool
-someStation p zero = false
-someStation p (suc k) = someStation p k || p k
 
 -- 12: time or a reading would exceed its limit, or a station in round 1,000,000 would reach its next mark
 unfoldable pub exceedsAt : Run → List ℕ → ℕ → Bool

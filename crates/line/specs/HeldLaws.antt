@@ -21,7 +21,7 @@ use Rattle.flight.specs.Coding.{length-decode}
 use Rattle.station.specs.declared.Station.{Station}
 use Rattle.line.specs.declared.Line.{Line}
 use Rattle.line.specs.Run.{noStation}
-use Rattle.line.specs.Record.{badStationAt, someBadStation, badWay, badRound, badMessage, badRecord}
+use Rattle.line.specs.Record.{badStationAt, someStation, badWay, badRound, badMessage, badRecord}
 use Rattle.line.specs.Valid.{valid-is}
 use Rattle.line.specs.Held.{firstOf, placeOf, runOf, badLine}
 
@@ -48,17 +48,17 @@ place-some (suc k) table i h = elim (decLt i k) [
 ]
 
 module _ (l : Line) where
-  pub some-none : someBadStation (runOf l []) 0 ≡ false
-  unfolding someBadStation
+  pub some-none : someStation (badStationAt (runOf l [])) 0 ≡ false
+  unfolding someStation
   some-none = refl
 
-  pub some-more : (i : ℕ) {before here : Bool} → before ≡ someBadStation (runOf l []) i → here ≡ badStationAt (runOf l []) i
-      → (before || here) ≡ someBadStation (runOf l []) (i + 1)
-  unfolding someBadStation
+  pub some-more : (i : ℕ) {before here : Bool} → before ≡ someStation (badStationAt (runOf l [])) i → here ≡ badStationAt (runOf l []) i
+      → (before || here) ≡ someStation (badStationAt (runOf l [])) (i + 1)
+  unfolding someStation
   some-more i e f = rw add-one (ap₂ _||_ e f)
 
-  pub stations-any : (words : List ℕ) (k : ℕ) → someBadStation (runOf l words) k ≡ someBadStation (runOf l []) k
-  unfolding someBadStation badStationAt runOf
+  pub stations-any : (words : List ℕ) (k : ℕ) → someStation (badStationAt (runOf l words)) k ≡ someStation (badStationAt (runOf l [])) k
+  unfolding someStation badStationAt runOf
   stations-any words zero = refl
   stations-any words (suc k) = ap (λ (b : Bool). b || badStationAt (runOf l []) k) (stations-any words k)
 
@@ -87,7 +87,7 @@ rules l words =
     || not (eqb (length words) (3 * maxFlight))
     || not (eqb (planAnswer (l .plan)) 0)
     || ltb maxTime (l .time .0)
-    || someBadStation (runOf l []) (l .plan .stations)
+    || someStation (badStationAt (runOf l [])) (l .plan .stations)
     || ltb maxFlight (l .count)
     || someOf (badMessage (runOf l [])) (decode (l .count) words)
     || twins (decode (l .count) words)
@@ -100,7 +100,7 @@ line-rules l words =
     let table : not (eqb (length (firstOf n (l .stations))) n) ≡ false = ap not (eq-eqb _ _ (first-length n (l .stations))) in
     rw (table, length-decode (l .count) words, stations-any l words n, message-any l words (decode (l .count) words))
     (regroup (not (eqb (l .length) n)) (not (eqb (length words) (3 * maxFlight))) (not (eqb (planAnswer (l .plan)) 0))
-    (ltb maxTime (l .time .0)) (someBadStation (runOf l []) n) (ltb maxFlight (l .count))
+    (ltb maxTime (l .time .0)) (someStation (badStationAt (runOf l [])) n) (ltb maxFlight (l .count))
     (someOf (badMessage (runOf l [])) (decode (l .count) words)) (twins (decode (l .count) words)))
   where
     regroup : (a b c d e f g h : Bool)

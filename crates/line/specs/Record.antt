@@ -24,10 +24,10 @@ badFaulty s =
 unfoldable pub badStationAt : Run → ℕ → Bool
 badStationAt r i = pick (has (r .plan .faulty) i) (badFaulty (stationAt r i)) (badStation (r .plan) (stationAt r i))
 
--- one of the first k stations' does
-unfoldable pub someBadStation : Run → ℕ → Bool
-someBadStation r zero = false
-someBadStation r (suc k) = someBadStation r k || badStationAt r k
+-- some of the first k stations has p, which is asked of its number
+unfoldable pub someStation : (ℕ → Bool) → ℕ → Bool
+someStation p zero = false
+someStation p (suc k) = someStation p k || p k
 
 -- a round from 1 to 1,000,000, kind 0 or 1, a non-empty mask with no bit at n or above
 unfoldable pub badContent : Plan → Message → Bool
@@ -55,7 +55,7 @@ badRecord r =
     not (eqb (planAnswer (r .plan)) 0)
     || not (eqb (length (r .stations)) (r .plan .stations))
     || ltb maxTime (r .time)
-    || someBadStation r (r .plan .stations)
+    || someStation (badStationAt r) (r .plan .stations)
     || ltb maxFlight (length (r .flight))
     || someOf (badMessage r) (r .flight)
     || twins (r .flight)

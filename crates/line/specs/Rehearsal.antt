@@ -15,8 +15,8 @@ use Rattle.event.specs.declared.Event.{Event}
 use Rattle.event.specs.declared.Event.the-variants.{Advance, Deliver, Send}
 use Rattle.event.specs.Event.{badIncrement, badAdvance, badEnds, barred}
 use Rattle.line.specs.Run.{Run, sound, freshStations, fresh, others, sends, become, signAt, hearAt, movedAll, moves, landsAt, signTo}
-use Rattle.line.specs.Record.{badFaulty, badStationAt, someBadStation, badContent, badWay, badRound, badMessage, badRecord}
-use Rattle.line.specs.Event.{takeOut, effect, someStation, exceedsAt, driftsAt, passesAt, unsignedAt, unsigned, full, eventRules, stepAnswer, eventAnswer, step}
+use Rattle.line.specs.Record.{badFaulty, badStationAt, someStation, badContent, badWay, badRound, badMessage, badRecord}
+use Rattle.line.specs.Event.{takeOut, effect, exceedsAt, driftsAt, passesAt, unsignedAt, unsigned, full, eventRules, stepAnswer, eventAnswer, step}
 use Rattle.line.specs.History.{Entry, told, sumTo, sentBy, taken, deliveredBy, sentIn, deliveredIn}
 
 -- n 3, f 1, r 0, T 2, D 2, A 4, P 7, station 2 faulty
@@ -74,10 +74,10 @@ setup-line = refl
 -- and the events as the document prints them; station 2 is faulty, and its round is not shown there
 pub event-lines : play (fresh plan first) script
     ≡ line 0 2 0 0 ∷ line 14 2 0 0 ∷ line 18 2 0 0 ∷ line 0 2 0 1 ∷ line 0 2 1 1 ∷ line 15 2 1 1 ∷ line 0 2 1 1 ∷ line 0 3 1 1 ∷ []
-unfolding keeps some has countTo count below join only all minus badStations badFaults badLimits badMarks gap steps spreads planAnswer still complete start settle gather hear sign move lands passes advance badNumbers badSigned badGathered badStation exceeds named messageOf indexOf without sentTo someOf late twins badIncrement badAdvance badEnds barred sound freshStations fresh others sends become signAt hearAt movedAll moves landsAt signTo badFaulty badStationAt someBadStation badContent badWay badRound badMessage badRecord takeOut effect someStation exceedsAt driftsAt passesAt unsignedAt unsigned full eventRules stepAnswer eventAnswer step
+unfolding keeps some has countTo count below join only all minus badStations badFaults badLimits badMarks gap steps spreads planAnswer still complete start settle gather hear sign move lands passes advance badNumbers badSigned badGathered badStation exceeds named messageOf indexOf without sentTo someOf late twins badIncrement badAdvance badEnds barred sound freshStations fresh others sends become signAt hearAt movedAll moves landsAt signTo badFaulty badStationAt badContent badWay badRound badMessage badRecord takeOut effect someStation exceedsAt driftsAt passesAt unsignedAt unsigned full eventRules stepAnswer eventAnswer step
 event-lines = refl
 
 -- counted from its history, three messages were sent and two delivered
 pub rehearsal-count : (sentIn (fresh plan first) script ≡ 3) × (deliveredIn (fresh plan first) script ≡ 2)
-unfolding keeps some has countTo count below join only all minus badStations badFaults badLimits badMarks gap steps spreads planAnswer still complete start settle gather hear sign move lands passes advance badNumbers badSigned badGathered badStation exceeds named messageOf indexOf without sentTo someOf late twins badIncrement badAdvance badEnds barred sound freshStations fresh others sends become signAt hearAt movedAll moves landsAt signTo badFaulty badStationAt someBadStation badContent badWay badRound badMessage badRecord takeOut effect someStation exceedsAt driftsAt passesAt unsignedAt unsigned full eventRules stepAnswer eventAnswer step told sumTo sentBy taken deliveredBy sentIn deliveredIn
+unfolding keeps some has countTo count below join only all minus badStations badFaults badLimits badMarks gap steps spreads planAnswer still complete start settle gather hear sign move lands passes advance badNumbers badSigned badGathered badStation exceeds named messageOf indexOf without sentTo someOf late twins badIncrement badAdvance badEnds barred sound freshStations fresh others sends become signAt hearAt movedAll moves landsAt signTo badFaulty badStationAt badContent badWay badRound badMessage badRecord takeOut effect someStation exceedsAt driftsAt passesAt unsignedAt unsigned full eventRules stepAnswer eventAnswer step told sumTo sentBy taken deliveredBy sentIn deliveredIn
 rehearsal-count = (refl, refl)

@@ -26,8 +26,7 @@ use Rattle.flight.specs.declared.Message.{Message}
 use Rattle.flight.specs.Message.{twins}
 use Rattle.flight.specs.Members.{All, noMember, all-map, some-none, none-some}
 use Rattle.line.specs.Run.{Run, sound, noStation, stationAt, freshStation, freshStations, fresh}
-use Rattle.line.specs.Record.{badFaulty, badStationAt, someBadStation, badContent, badWay, badRound, badMessage, badRecord}
-use Rattle.line.specs.Event.{someStation}
+use Rattle.line.specs.Record.{badFaulty, badStationAt, someStation, badContent, badWay, badRound, badMessage, badRecord}
 
 -- ---- the rules
 
@@ -111,12 +110,6 @@ station-none p (suc k) f =
     let a = station-none p k (λ i h. f i (omega arith)) in
     let b = f k (omega arith) in
     rw (a, b) refl
-
--- a station's record that breaks its rules, as a question about stations
-bad-some : (r : Run) (k : ℕ) → someBadStation r k ≡ someStation (badStationAt r) k
-unfolding someBadStation someStation
-bad-some r zero = refl
-bad-some r (suc k) = ap (λ (b : Bool). b || badStationAt r k) (bad-some r k)
 
 -- a station that passes the test is sound
 pub sound-is : (plan : Plan) (i : ℕ) → sound plan i ≡ true → Sound plan i
@@ -254,7 +247,7 @@ valid-is r e =
     let g = neither _ _ (f .0) in
     let ok : planAnswer (r .plan) ≡ 0 = eqb-true _ _ (not-false _ (g .0)) in
     let each : (i : ℕ) → i < r .plan .stations → badStationAt r i ≡ false =
-    λ i h. none-station (badStationAt r) (r .plan .stations) i (sym (bad-some r (r .plan .stations)) ∙ d .1) h in
+    λ i h. none-station (badStationAt r) (r .plan .stations) i (d .1) h in
     record {
       rules = record {
         answer = ok;
@@ -276,7 +269,7 @@ is-valid r v =
     let a = eq-eqb (planAnswer (r .plan)) 0 (v .rules .answer) in
     let b = eq-eqb (length (r .stations)) (r .plan .stations) (v .rules .long) in
     let c = le-ltb maxTime (r .time) (v .rules .time) in
-    let d = bad-some r (r .plan .stations) ∙ station-none (badStationAt r) (r .plan .stations) (λ i h. each i h (has (r .plan .faulty) i) refl) in
+    let d = station-none (badStationAt r) (r .plan .stations) (λ i h. each i h (has (r .plan .faulty) i) refl) in
     let f = le-ltb maxFlight (length (r .flight)) (v .few) in
     let g = some-none (badMessage r) (all-map (is-way r) (v .rules .flight)) in
     let t = v .rules .single in

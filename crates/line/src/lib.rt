@@ -176,7 +176,7 @@ fn bad_station_at(l: Line, i: u64) -> bool
 // Whether some station's does.
 fn some_bad_station(l: Line) -> bool
     requires { ⌜ Planned (l .plan) ⌝ }
-    ensures { λ r. ⌜ r ≡ rule.someBadStation (held.runOf l []) (l .plan .stations) ⌝ }
+    ensures { λ r. ⌜ r ≡ rule.someStation (rule.badStationAt (held.runOf l [])) (l .plan .stations) ⌝ }
 {
     let mut bad = false;
     let mut i: u64 = 0;

@@ -2,7 +2,7 @@
 -- is how many are left. Assumes nothing.
 use mathlib.Core.Path.{_≡_, ap, sym, _∙_}
 use Prim.Native.Nat.{_-_, _≤_}
-use Rattle.line.specs.Record.{someBadStation}
+use Rattle.line.specs.Record.{badStationAt, someStation}
 use Rattle.line.specs.Held.{runOf}
 use Rattle.line.specs.HeldLaws.{some-none, some-more}
 use mathlib.Core.List.{[]}
@@ -11,7 +11,7 @@ use Rattle.line.proofs.some_bad_station.Statement.{statement}
 use Rattle.line.proofs.some_bad_station.Tie as tie
 
 abbrev Inv-loop : tie.InvT-loop
-Inv-loop l bad₀ i₀ bad i = (i ≤ l .plan .stations) × (bad ≡ someBadStation (runOf l []) i)
+Inv-loop l bad₀ i₀ bad i = (i ≤ l .plan .stations) × (bad ≡ someStation (badStationAt (runOf l [])) i)
 
 abbrev μ-loop : tie.MeasureT-loop
 μ-loop l bad₀ i₀ bad i = l .plan .stations - i
@@ -32,7 +32,7 @@ loop-again : tie.Need-loop-again Inv-loop μ-loop
 loop-again c = (omega arith, some-more _ _ (c .before .before .before .loop .inv .1) (c .bad-station-at .ensures))
 
 returns : tie.Need-returns Inv-loop μ-loop
-returns c = let s : c .before .before .loop .i ≡ c .before .before .before .args .l .plan .stations = omega arith in c .before .before .loop .inv .1 ∙ ap (someBadStation _) s
+returns c = let s : c .before .before .loop .i ≡ c .before .before .before .args .l .plan .stations = omega arith in c .before .before .loop .inv .1 ∙ ap (someStation _) s
 
 pub some-bad-station-spec : {M : Type 1} → statement M
 some-bad-station-spec =
