@@ -18,7 +18,8 @@ returns-2 c =
     let a = c .before .before .before .before .args in
     let e = holds-true (a .count) (a .words .now) (c .before .before .if1 .left) in
     let p = false-recipient (a .names) (c .if2 .taken) in
-    rw e (sym (seek-unpackable (a .names) (a .count) (a .words .now) (λ i. c .before .before .before .shared-slice-known .given i .fits) p))
+    rw e (sym (seek-unpackable (a .names) (a .count) (a .words .now)
+    (λ i. c .before .before .before .shared-slice-known .given i .fits) p))
 
 packs-requires : tie.Need-packs-requires
 packs-requires c κs = search needs
@@ -28,10 +29,15 @@ returns-3 c =
     let a = c .before .before .before .before .before .before .args in
     let e = holds-true (a .count) (a .words .now) (c .before .before .before .before .if1 .left) in
     let p = false-packs (a .names) (sym (c .before .packs .ensures) ∙ not-true _ (c .if3 .taken)) in
-    rw e (sym (seek-unpackable (a .names) (a .count) (a .words .now) (λ i. c .before .before .before .before .before .shared-slice-known .given i .fits) p))
+    rw e (sym (seek-unpackable (a .names) (a .count) (a .words .now)
+    (λ i. c .before .before .before .before .before .shared-slice-known .given i .fits) p))
 
 pack-requires : tie.Need-pack-requires
-pack-requires c κs = (c .before .before .if2 .left, packs-true _ _ _ (sym (c .before .packs .ensures) ∙ not-false _ (c .if3 .left)))
+pack-requires c κs = (
+  c .before .before .if2 .left,
+  packs-true _ _ _ (sym (c .before .packs .ensures) ∙ not-false _
+      (c .if3 .left)),
+)
 
 seek-requires : tie.Need-seek-requires
 seek-requires c κs = search needs
@@ -40,8 +46,10 @@ returns-4 : tie.Need-returns-4
 returns-4 c =
     let a = c .before .before .before .before .before .before .before .before .args in
     let e = holds-true (a .count) (a .words .now) (c .before .before .before .before .before .before .if1 .left) in
-    let p = true-packable (a .names) (c .before .before .before .before .if2 .left) (packs-true _ _ _ (sym (c .before .before .before .packs .ensures) ∙ not-false _ (c .before .before .if3 .left))) in
-    let k : unpacked (c .before .pack .result) ≡ a .names = ap unpacked (c .before .pack .ensures) ∙ unpacked-packed (a .names) p in
+    let p = true-packable (a .names) (c .before .before .before .before .if2 .left) (packs-true _ _ _ (sym
+    (c .before .before .before .packs .ensures) ∙ not-false _ (c .before .before .if3 .left))) in
+    let k : unpacked (c .before .pack .result) ≡ a .names = ap unpacked (c .before .pack .ensures) ∙ unpacked-packed
+    (a .names) p in
     rw e (c .seek .ensures ∙ ap (λ (x : Names). indexOf x (decode (a .count) (a .words .now))) k)
 
 pub find-spec : {M : Type 1} → statement M

@@ -13,7 +13,8 @@ use Rattle.flight.proofs.lay.Statement.{statement}
 use Rattle.flight.proofs.lay.Tie as tie
 
 abbrev Inv-loop : tie.InvT-loop
-Inv-loop words₀ count m to key n₀ k₀ words n k = (k ≤ 12) × (n ≡ count + length (sentTo m k to)) × (words ≡ coded words₀ (decode count words₀ ++ sentTo m k to))
+Inv-loop words₀ count m to key n₀ k₀ words n k = (k ≤ 12) × (n ≡ count + length (sentTo m k to)) ×
+    (words ≡ coded words₀ (decode count words₀ ++ sentTo m k to))
 
 abbrev μ-loop : tie.MeasureT-loop
 μ-loop words₀ count m to key n₀ k₀ words n k = 12 - k
@@ -42,7 +43,8 @@ put-next-requires c κs =
     let p = c .before .before .before .before .pack in
     let b = c .before .before .before .loop in
     let t = c .before .before .loop-test .taken in
-    turn-fits (a .words .now) (a .count) (a .m) (a .to) (c .before .before .before .before .before .before .pre .1) (b .k) t (b .inv .2) (b .inv .1) (p .ensures) (c .has .ensures)
+    turn-fits (a .words .now) (a .count) (a .m) (a .to) (c .before .before .before .before .before .before .pre .1)
+    (b .k) t (b .inv .2) (b .inv .1) (p .ensures) (c .has .ensures)
 
 add-k : tie.Need-add-k Inv-loop μ-loop
 add-k c = omega arith
@@ -60,7 +62,8 @@ loop-again c =
     let h = c .before .before .before .has in
     let n = c .before .before .put-next .ensures in (
       omega arith,
-      n .0 ∙ turn-number (a .words .now) (a .count) (a .m) (a .to) room (b .k) t (b .inv .2) (b .inv .1) (p .ensures) (h .ensures),
+      n .0 ∙ turn-number (a .words .now) (a .count) (a .m) (a .to) room (b .k) t (b .inv .2) (b .inv .1) (p .ensures)
+          (h .ensures),
       n .1 ∙ turn-done (a .words .now) (a .count) (a .m) (a .to) room (b .k) t (b .inv .2) (b .inv .1) (p .ensures) (h .ensures),
     )
 
@@ -68,14 +71,16 @@ same-length : tie.Need-same-length Inv-loop μ-loop
 same-length c =
     let a = c .before .before .before .before .args in
     let b = c .before .loop in
-    ap length (b .inv .2) ∙ turn-length (a .words .now) (a .count) (a .m) (a .to) (c .before .before .before .before .pre .1) (b .k) (b .inv .0)
+    ap length (b .inv .2) ∙ turn-length (a .words .now) (a .count) (a .m) (a .to)
+    (c .before .before .before .before .pre .1) (b .k) (b .inv .0)
 
 returns : tie.Need-returns Inv-loop μ-loop
 returns c =
     let a = c .before .before .before .before .args in
     let e : c .before .loop .k ≡ 12 = omega arith in (
       c .before .loop .inv .1 ∙ ap (λ (k : ℕ). a .count + length (sentTo (a .m) k (a .to))) e,
-      c .before .loop .inv .2 ∙ ap (λ (k : ℕ). coded (a .words .now) (decode (a .count) (a .words .now) ++ sentTo (a .m) k (a .to))) e,
+      c .before .loop .inv .2 ∙ ap (λ (k : ℕ). coded (a .words .now) (decode (a .count) (a .words .now) ++ sentTo
+          (a .m) k (a .to))) e,
     )
 
 pub lay-spec : {M : Type 1} → statement M

@@ -10,7 +10,8 @@ unpack-requires : tie.Need-unpack-requires
 unpack-requires c κs = search needs
 
 returns : tie.Need-returns
-returns c = c .unpack .ensures ∙ sym (message-past (c .before .before .before .args .words .now) (c .before .before .before .args .i) (c .before .if1 .taken))
+returns c = c .unpack .ensures ∙ sym (message-past (c .before .before .before .args .words .now)
+    (c .before .before .before .args .i) (c .before .if1 .taken))
 
 mul-word : tie.Need-mul-word
 mul-word c = search needs

@@ -44,7 +44,8 @@ returns-3 c =
     rw e
     (c .search .ensures
     ∙ ap (someOf (before (t - a .wait))) (c .before .before .before .before .note .ensures)
-    ∙ noted-overdue t (a .wait) (a .count) l (replicate 256 last) (c .before .before .before .before .before .before .if2 .left) refl (first-notes t (a .wait) (omega arith)))
+    ∙ noted-overdue t (a .wait) (a .count) l (replicate 256 last)
+    (c .before .before .before .before .before .before .if2 .left) refl (first-notes t (a .wait) (omega arith)))
 
 pub overdue-spec : {M : Type 1} → statement M
 overdue-spec =

@@ -12,7 +12,8 @@ put-requires : tie.Need-put-requires
 put-requires c κs = let h = c .before .before .before .pre (c .before .if1 .taken) in omega arith
 
 add-result : tie.Need-add-result
-add-result c = let h = c .before .before .before .before .before .before .pre (c .before .before .before .before .if1 .taken) in omega arith
+add-result c = let h = c .before .before .before .before .before .before .pre
+    (c .before .before .before .before .if1 .taken) in omega arith
 
 same-length : tie.Need-same-length
 same-length c = search needs

@@ -13,13 +13,15 @@ use Rattle.flight.proofs.search.Statement.{statement}
 use Rattle.flight.proofs.search.Tie as tie
 
 abbrev Inv-loop : tie.InvT-loop
-Inv-loop oldest limit found₀ sender recipient₀ found recipient = (recipient ≤ 16) × (found ≡ false) × ((p : ℕ) → p < sender * 16 + recipient → limit ≤ getD oldest p 0)
+Inv-loop oldest limit found₀ sender recipient₀ found recipient = (recipient ≤ 16) × (found ≡ false) ×
+    ((p : ℕ) → p < sender * 16 + recipient → limit ≤ getD oldest p 0)
 
 abbrev μ-loop : tie.MeasureT-loop
 μ-loop oldest limit found₀ sender recipient₀ found recipient = 16 - recipient
 
 abbrev Inv-search : tie.InvT-search
-Inv-search oldest limit found₀ sender₀ found sender = (sender ≤ 16) × (found ≡ false) × ((p : ℕ) → p < sender * 16 → limit ≤ getD oldest p 0)
+Inv-search oldest limit found₀ sender₀ found sender = (sender ≤ 16) × (found ≡ false) ×
+    ((p : ℕ) → p < sender * 16 → limit ≤ getD oldest p 0)
 
 abbrev μ-search : tie.MeasureT-search
 μ-search oldest limit found₀ sender₀ found sender = 16 - sender

@@ -46,10 +46,14 @@ returns-3 : tie.Need-returns-3
 returns-3 c =
     let a = c .before .before .before .before .before .before .before .args in
     let l = a .words .now in
-    let e = take-can (a .count) l (a .i) (c .before .before .before .before .before .if1 .left) (c .before .before .before .before .if2 .left) in
+    let e = take-can (a .count) l (a .i) (c .before .before .before .before .before .if1 .left)
+    (c .before .before .before .before .if2 .left) in
     let n : length (without (a .i) (decode (a .count) l)) ≡ a .count - 1 =
-    length-without (a .i) (decode (a .count) l) ∙ omega (arith, length-decode (a .count) l) in
-    (rw (e, n) refl, rw e (c .before .before .move-to .ensures ∙ stored-out l (a .count) (a .i) (omega arith) (c .before .before .before .before .if2 .left)))
+    length-without (a .i) (decode (a .count) l) ∙ omega (arith, length-decode (a .count) l) in (
+      rw (e, n) refl,
+      rw e (c .before .before .move-to .ensures ∙ stored-out l (a .count) (a .i) (omega arith)
+          (c .before .before .before .before .if2 .left)),
+    )
 
 pub take-out-spec : {M : Type 1} → statement M
 take-out-spec =

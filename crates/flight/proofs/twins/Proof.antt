@@ -16,7 +16,8 @@ abbrev μ-loop : tie.MeasureT-loop
 μ-loop words count marks₀ i₀ marks i = count - i
 
 returns : tie.Need-returns Inv-loop μ-loop
-returns c = let e = holds-false (c .before .before .args .count) (c .before .before .args .words .now) (c .if1 .taken) in rw e refl
+returns c = let e = holds-false (c .before .before .args .count) (c .before .before .args .words .now)
+    (c .if1 .taken) in rw e refl
 
 loop-holds : tie.Need-loop-holds Inv-loop μ-loop
 loop-holds c = (omega arith, refl, marked-none _ _, different-none _)
@@ -43,7 +44,8 @@ returns-2 c =
     let i = c .before .before .before .before .loop .i in
     let e = holds-true (a .count) l (c .before .before .before .before .before .if1 .left) in
     let mark = getD (c .before .before .before .before .loop .marks) (first l i % 1024) 0 in
-    rw e (sym (word-twins (a .count) i l mark (c .before .before .before .loop-test .taken) (sym (c .before .again .ensures) ∙ c .if2 .taken)))
+    rw e (sym (word-twins (a .count) i l mark (c .before .before .before .loop-test .taken) (sym
+    (c .before .again .ensures) ∙ c .if2 .taken)))
 
 array-write-marks : tie.Need-array-write-marks Inv-loop μ-loop
 array-write-marks c = omega arith

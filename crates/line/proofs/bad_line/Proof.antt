@@ -34,13 +34,27 @@ plan-answer-requires c κs = search needs
 returns-3 : tie.Need-returns-3
 returns-3 c =
     let a = c .before .before .before .before .before .before .args in
-    let f : true ≡ rules (a .l) (now (a .words)) = rw (eq-eqb _ _ (c .before .before .before .if1 .left), eq-eqb _ _ (c .before .before .if2 .left), ne-eqb _ _ (λ z. c .if3 .taken (c .before .plan-answer .ensures ∙ z))) in
+    let f : true ≡ rules (a .l) (now (a .words)) = rw (
+      eq-eqb _ _ (c .before .before .before .if1 .left),
+      eq-eqb _ _
+          (c .before .before .if2 .left),
+      ne-eqb _ _ (λ z. c .if3 .taken (c .before .plan-answer .ensures ∙ z)),
+    ) in
     f ∙ line-rules (a .l) (now (a .words))
 
 returns-4 : tie.Need-returns-4
 returns-4 c =
     let a = c .before .before .before .before .before .before .before .before .args in
-    let f : true ≡ rules (a .l) (now (a .words)) = rw (eq-eqb _ _ (c .before .before .before .before .before .if1 .left), eq-eqb _ _ (c .before .before .before .before .if2 .left), eq-eqb _ _ (sym (c .before .before .before .plan-answer .ensures) ∙ c .before .before .if3 .left), lt-ltb _ _ (c .if4 .taken)) in
+    let f : true ≡ rules (a .l) (now (a .words)) = rw (
+      eq-eqb _ _
+          (c .before .before .before .before .before .if1 .left),
+      eq-eqb _ _
+          (c .before .before .before .before .if2 .left),
+      eq-eqb _ _ (sym
+          (c .before .before .before .plan-answer .ensures) ∙ c .before .before .if3 .left),
+      lt-ltb _ _
+          (c .if4 .taken),
+    ) in
     f ∙ line-rules (a .l) (now (a .words))
 
 some-bad-station-requires : tie.Need-some-bad-station-requires
@@ -49,22 +63,65 @@ some-bad-station-requires c κs = planned _ (sym (c .before .before .before .pla
 returns-5 : tie.Need-returns-5
 returns-5 c =
     let a = c .before .before .before .before .before .before .before .before .before .before .args in
-    let f : true ≡ rules (a .l) (now (a .words)) = rw (eq-eqb _ _ (c .before .before .before .before .before .before .before .if1 .left), eq-eqb _ _ (c .before .before .before .before .before .before .if2 .left), eq-eqb _ _ (sym (c .before .before .before .before .before .plan-answer .ensures) ∙ c .before .before .before .before .if3 .left), le-ltb _ _ (c .before .before .if4 .left), (sym (c .before .some-bad-station .ensures) ∙ c .if5 .taken)) in
+    let f : true ≡ rules (a .l) (now (a .words)) = rw (
+      eq-eqb _ _
+          (c .before .before .before .before .before .before .before .if1 .left),
+      eq-eqb _ _
+          (c .before .before .before .before .before .before .if2 .left),
+      eq-eqb _ _ (sym
+          (c .before .before .before .before .before .plan-answer .ensures)
+          ∙ c .before .before .before .before .if3 .left),
+      le-ltb _ _ (c .before .before .if4 .left),
+      (sym
+          (c .before .some-bad-station .ensures) ∙ c .if5 .taken),
+    ) in
     f ∙ line-rules (a .l) (now (a .words))
 
 returns-6 : tie.Need-returns-6
 returns-6 c =
     let a = c .before .before .before .before .before .before .before .before .before .before .before .before .args in
-    let f : true ≡ rules (a .l) (now (a .words)) = rw (eq-eqb _ _ (c .before .before .before .before .before .before .before .before .before .if1 .left), eq-eqb _ _ (c .before .before .before .before .before .before .before .before .if2 .left), eq-eqb _ _ (sym (c .before .before .before .before .before .before .before .plan-answer .ensures) ∙ c .before .before .before .before .before .before .if3 .left), le-ltb _ _ (c .before .before .before .before .if4 .left), (sym (c .before .before .before .some-bad-station .ensures) ∙ c .before .before .if5 .left), lt-ltb _ _ (c .if6 .taken)) in
+    let f : true ≡ rules (a .l) (now (a .words)) = rw (
+      eq-eqb _ _
+          (c .before .before .before .before .before .before .before .before .before .if1 .left),
+      eq-eqb _ _
+          (c .before .before .before .before .before .before .before .before .if2 .left),
+      eq-eqb _ _ (sym
+          (c .before .before .before .before .before .before .before .plan-answer .ensures)
+          ∙ c .before .before .before .before .before .before .if3 .left),
+      le-ltb _ _
+          (c .before .before .before .before .if4 .left),
+      (sym
+          (c .before .before .before .some-bad-station .ensures) ∙ c .before .before .if5 .left),
+      lt-ltb _ _
+          (c .if6 .taken),
+    ) in
     f ∙ line-rules (a .l) (now (a .words))
 
 some-bad-message-requires : tie.Need-some-bad-message-requires
-some-bad-message-requires c κs = planned _ (sym (c .before .before .before .before .before .before .before .plan-answer .ensures) ∙ c .before .before .before .before .before .before .if3 .left) .stations .1
+some-bad-message-requires c κs = planned _ (sym
+    (c .before .before .before .before .before .before .before .plan-answer .ensures)
+    ∙ c .before .before .before .before .before .before .if3 .left) .stations .1
 
 returns-7 : tie.Need-returns-7
 returns-7 c =
-    let a = c .before .before .before .before .before .before .before .before .before .before .before .before .before .before .args in
-    let f : true ≡ rules (a .l) (now (a .words)) = rw (eq-eqb _ _ (c .before .before .before .before .before .before .before .before .before .before .before .if1 .left), eq-eqb _ _ (c .before .before .before .before .before .before .before .before .before .before .if2 .left), eq-eqb _ _ (sym (c .before .before .before .before .before .before .before .before .before .plan-answer .ensures) ∙ c .before .before .before .before .before .before .before .before .if3 .left), le-ltb _ _ (c .before .before .before .before .before .before .if4 .left), (sym (c .before .before .before .before .before .some-bad-station .ensures) ∙ c .before .before .before .before .if5 .left), le-ltb _ _ (c .before .before .if6 .left), (sym (c .before .some-bad-message .ensures) ∙ c .if7 .taken)) in
+    let a =
+    c .before .before .before .before .before .before .before .before .before .before .before .before .before .before .args in
+    let f : true ≡ rules (a .l) (now (a .words)) = rw (
+      eq-eqb _ _
+          (c .before .before .before .before .before .before .before .before .before .before .before .if1 .left),
+      eq-eqb _ _ (c .before .before .before .before .before .before .before .before .before .before .if2 .left),
+      eq-eqb _ _ (sym
+          (c .before .before .before .before .before .before .before .before .before .plan-answer .ensures)
+          ∙ c .before .before .before .before .before .before .before .before .if3 .left),
+      le-ltb _ _
+          (c .before .before .before .before .before .before .if4 .left),
+      (sym
+          (c .before .before .before .before .before .some-bad-station .ensures)
+          ∙ c .before .before .before .before .if5 .left),
+      le-ltb _ _ (c .before .before .if6 .left),
+      (sym
+          (c .before .some-bad-message .ensures) ∙ c .if7 .taken),
+    ) in
     f ∙ line-rules (a .l) (now (a .words))
 
 twins-requires : tie.Need-twins-requires
@@ -73,9 +130,27 @@ twins-requires c κs = search needs
 returns-8 : tie.Need-returns-8
 unfolding holds
 returns-8 c =
-    let a = c .before .before .before .before .before .before .before .before .before .before .before .before .before .before .before .args in
+    let a =
+    c .before .before .before .before .before .before .before .before .before .before .before .before .before .before .before .args in
     let room : holds (a .l .count) (now (a .words)) ≡ true = le-leb (3 * a .l .count) (length (now (a .words))) (omega arith) in
-    let f : twins (decode (a .l .count) (now (a .words))) ≡ rules (a .l) (now (a .words)) = rw (eq-eqb _ _ (c .before .before .before .before .before .before .before .before .before .before .before .before .if1 .left), eq-eqb _ _ (c .before .before .before .before .before .before .before .before .before .before .before .if2 .left), eq-eqb _ _ (sym (c .before .before .before .before .before .before .before .before .before .before .plan-answer .ensures) ∙ c .before .before .before .before .before .before .before .before .before .if3 .left), le-ltb _ _ (c .before .before .before .before .before .before .before .if4 .left), (sym (c .before .before .before .before .before .before .some-bad-station .ensures) ∙ c .before .before .before .before .before .if5 .left), le-ltb _ _ (c .before .before .before .if6 .left), (sym (c .before .before .some-bad-message .ensures) ∙ c .before .if7 .left)) in
+    let f : twins (decode (a .l .count) (now (a .words))) ≡ rules (a .l) (now (a .words)) = rw (
+      eq-eqb _ _
+          (c .before .before .before .before .before .before .before .before .before .before .before .before .if1 .left),
+      eq-eqb _ _
+          (c .before .before .before .before .before .before .before .before .before .before .before .if2 .left),
+      eq-eqb _ _ (sym
+          (c .before .before .before .before .before .before .before .before .before .before .plan-answer .ensures)
+          ∙ c .before .before .before .before .before .before .before .before .before .if3 .left),
+      le-ltb _ _
+          (c .before .before .before .before .before .before .before .if4 .left),
+      (sym
+          (c .before .before .before .before .before .before .some-bad-station .ensures)
+          ∙ c .before .before .before .before .before .if5 .left),
+      le-ltb _ _
+          (c .before .before .before .if6 .left),
+      (sym (c .before .before .some-bad-message .ensures)
+          ∙ c .before .if7 .left),
+    ) in
     c .twins .ensures ∙ rw room (f ∙ line-rules (a .l) (now (a .words)))
 
 pub bad-line-spec : {M : Type 1} → statement M

@@ -19,14 +19,20 @@ bad-faulty-requires c κs = search needs
 
 returns : tie.Need-returns
 unfolding badStationAt runOf
-returns c = rw (sym (c .before .before .has .ensures) ∙ c .before .if1 .taken) (c .bad-faulty .ensures ∙ ap badFaulty (c .before .before .before .station-at .ensures))
+returns c = rw (sym (c .before .before .has .ensures) ∙ c .before .if1 .taken) (c .bad-faulty .ensures ∙ ap badFaulty
+    (c .before .before .before .station-at .ensures))
 
 bad-station-requires : tie.Need-bad-station-requires
 bad-station-requires c κs = search needs
 
 returns-2 : tie.Need-returns-2
 unfolding badStationAt runOf pastLimits
-returns-2 c = rw (sym (c .before .before .has .ensures) ∙ c .before .if1 .left) (c .bad-station .ensures ∙ rw (le-ltb _ _ (c .before .before .before .before .pre .limits .period .1), le-ltb _ _ (c .before .before .before .before .pre .limits .step .1), c .before .before .before .station-at .ensures))
+returns-2 c = rw (sym (c .before .before .has .ensures) ∙ c .before .if1 .left) (c .bad-station .ensures ∙ rw (
+  le-ltb _ _ (c .before .before .before .before .pre .limits .period .1),
+  le-ltb _ _
+      (c .before .before .before .before .pre .limits .step .1),
+  c .before .before .before .station-at .ensures,
+))
 
 pub bad-station-at-spec : {M : Type 1} → statement M
 bad-station-at-spec =

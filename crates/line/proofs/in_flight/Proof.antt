@@ -17,7 +17,11 @@ returns c = rw (sym (c .before .bad-line .ensures) ∙ c .if1 .taken)
 
 returns-2 : tie.Need-returns-2
 unfolding inFlight runOf
-returns-2 c = rw (sym (c .before .bad-line .ensures) ∙ c .if1 .left) (λ i. record { answer = 0; count = sym (length-decode (c .before .before .before .args .l .count) (now (c .before .before .before .args .words))) i })
+returns-2 c = rw (sym (c .before .bad-line .ensures) ∙ c .if1 .left) (λ i. record {
+  answer = 0;
+  count = sym
+      (length-decode (c .before .before .before .args .l .count) (now (c .before .before .before .args .words))) i;
+})
 
 pub in-flight-spec : {M : Type 1} → statement M
 in-flight-spec = tie.close (tie.spec bad-line-requires returns returns-2)

@@ -21,14 +21,25 @@ sound-requires c κs = search needs
 
 returns-2 : tie.Need-returns-2
 unfolding showAnswer
-returns-2 c = shown-no _ _ _ 31 (rw ((sym (c .before .before .before .bad-line .ensures) ∙ c .before .before .if1 .left), (sym (c .before .sound .ensures) ∙ not-true _ (c .if2 .taken)))) (λ z. omega arith)
+returns-2 c = shown-no _ _ _ 31 (rw (
+  (sym (c .before .before .before .bad-line .ensures)
+      ∙ c .before .before .if1 .left),
+  (sym (c .before .sound .ensures) ∙ not-true _ (c .if2 .taken)),
+))
+    (λ z. omega arith)
 
 station-at-requires : tie.Need-station-at-requires
-station-at-requires c κs = line-planned _ _ (sym (c .before .before .before .bad-line .ensures) ∙ c .before .before .if1 .left) .stations .1
+station-at-requires c κs = line-planned _ _ (sym (c .before .before .before .bad-line .ensures)
+    ∙ c .before .before .if1 .left) .stations .1
 
 returns-3 : tie.Need-returns-3
 unfolding showAnswer runOf
-returns-3 c = shown-yes _ _ _ _ (rw ((sym (c .before .before .before .before .before .bad-line .ensures) ∙ c .before .before .before .before .if1 .left), (sym (c .before .before .before .sound .ensures) ∙ not-false _ (c .before .before .if2 .left)))) (c .before .station-at .ensures)
+returns-3 c = shown-yes _ _ _ _ (rw (
+  (sym (c .before .before .before .before .before .bad-line .ensures)
+      ∙ c .before .before .before .before .if1 .left),
+  (sym (c .before .before .before .sound .ensures) ∙ not-false _
+      (c .before .before .if2 .left)),
+)) (c .before .station-at .ensures)
 
 pub reading-spec : {M : Type 1} → statement M
 reading-spec =

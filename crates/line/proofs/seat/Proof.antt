@@ -52,7 +52,8 @@ loop-again : tie.Need-loop-again Inv-loop μ-loop
 loop-again c = (omega arith, turn _ _ (c .before .before .loop .inv .1))
 
 returns : tie.Need-returns Inv-loop μ-loop
-returns c = let s : c .before .loop .i ≡ length (now (c .before .before .before .before .args .first)) = omega arith in c .before .loop .inv .1 ∙ ap (seatedTo _) s
+returns c = let s : c .before .loop .i ≡ length (now (c .before .before .before .before .args .first)) =
+    omega arith in c .before .loop .inv .1 ∙ ap (seatedTo _) s
 
 pub seat-spec : {M : Type 1} → statement M
 seat-spec =

@@ -35,10 +35,17 @@ loop-less : tie.Need-loop-less Inv-loop μ-loop
 loop-less c = omega arith
 
 loop-again : tie.Need-loop-again Inv-loop μ-loop
-loop-again c = (omega arith, messages-more _ _ _ (c .before .before .before .before .loop .inv .1) (c .bad-message .ensures ∙ ap (badMessage _) (c .before .message-at .ensures)))
+loop-again c = (
+  omega arith,
+  messages-more _ _ _ (c .before .before .before .before .loop .inv .1)
+      (c .bad-message .ensures ∙ ap (badMessage _) (c .before .message-at .ensures)),
+)
 
 returns : tie.Need-returns Inv-loop μ-loop
-returns c = let s : c .before .before .loop .i ≡ c .before .before .before .before .args .l .count = omega arith in c .before .before .loop .inv .1 ∙ ap (λ (k : ℕ). someOf (badMessage (runOf (c .before .before .before .before .args .l) [])) (decode k (now (c .before .before .before .before .args .words)))) s
+returns c = let s : c .before .before .loop .i ≡ c .before .before .before .before .args .l .count =
+    omega arith in c .before .before .loop .inv .1 ∙ ap (λ (k : ℕ). someOf (badMessage (runOf
+    (c .before .before .before .before .args .l) [])) (decode k (now
+    (c .before .before .before .before .args .words)))) s
 
 pub some-bad-message-spec : {M : Type 1} → statement M
 some-bad-message-spec =

@@ -32,7 +32,8 @@ loop-again : tie.Need-loop-again Inv-loop μ-loop
 loop-again c = (omega arith, some-more _ _ (c .before .before .before .loop .inv .1) (c .bad-station-at .ensures))
 
 returns : tie.Need-returns Inv-loop μ-loop
-returns c = let s : c .before .before .loop .i ≡ c .before .before .before .args .l .plan .stations = omega arith in c .before .before .loop .inv .1 ∙ ap (someStation _) s
+returns c = let s : c .before .before .loop .i ≡ c .before .before .before .args .l .plan .stations =
+    omega arith in c .before .before .loop .inv .1 ∙ ap (someStation _) s
 
 pub some-bad-station-spec : {M : Type 1} → statement M
 some-bad-station-spec =

@@ -15,7 +15,11 @@ slice-aggregate-copy : tie.Need-slice-aggregate-copy
 slice-aggregate-copy c = search needs
 
 copy-requires : tie.Need-copy-requires
-copy-requires c κs = omega (arith, grouped-count (c .before .before .before .groups .ensures), c .before .before .before .groups .ensures)
+copy-requires c κs = omega (
+  arith,
+  grouped-count (c .before .before .before .groups .ensures),
+  c .before .before .before .groups .ensures,
+)
 
 add-result : tie.Need-add-result
 add-result c = search needs
@@ -24,7 +28,11 @@ same-length : tie.Need-same-length
 same-length c = search needs
 
 returns : tie.Need-returns
-returns c = (omega (arith, grouped-count (c .before .before .before .before .before .before .groups .ensures)), c .before .before .copy .ensures ∙ ap (laid _ _) (c .before .before .before .before .before .before .groups .ensures .same))
+returns c = (
+  omega (arith, grouped-count (c .before .before .before .before .before .before .groups .ensures)),
+  c .before .before .copy .ensures ∙ ap (laid _ _)
+      (c .before .before .before .before .before .before .groups .ensures .same),
+)
 
 pub put-number-spec : {M : Type 1} → statement M
 put-number-spec =

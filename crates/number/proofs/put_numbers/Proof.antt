@@ -67,7 +67,8 @@ shared-slice-read-put-number : tie.Need-shared-slice-read-put-number Inv-loop μ
 shared-slice-read-put-number c = omega arith
 
 put-number-requires : tie.Need-put-number-requires Inv-loop μ-loop
-put-number-requires c κs = fits _ _ _ _ _ _ (c .before .before .before .loop .inv .1) (c .before .before .loop-test .taken) (c .before .before .before .before .before .before .pre)
+put-number-requires c κs = fits _ _ _ _ _ _ (c .before .before .before .loop .inv .1)
+    (c .before .before .loop-test .taken) (c .before .before .before .before .before .before .pre)
 
 add-i : tie.Need-add-i Inv-loop μ-loop
 add-i c = omega arith
@@ -76,7 +77,13 @@ loop-less : tie.Need-loop-less Inv-loop μ-loop
 loop-less c = omega arith
 
 loop-again : tie.Need-loop-again Inv-loop μ-loop
-loop-again c = (omega arith, turn _ _ _ _ _ _ (c .before .before .before .before .before .before .loop .inv .1) (c .before .before .before .before .before .loop-test .taken) (c .before .before .before .before .before .before .before .before .before .pre) (c .before .before .put-number .ensures .0) (c .before .before .put-number .ensures .1))
+loop-again c = (
+  omega arith,
+  turn _ _ _ _ _ _ (c .before .before .before .before .before .before .loop .inv .1)
+      (c .before .before .before .before .before .loop-test .taken)
+      (c .before .before .before .before .before .before .before .before .before .pre)
+      (c .before .before .put-number .ensures .0) (c .before .before .put-number .ensures .1),
+)
 
 same-length : tie.Need-same-length Inv-loop μ-loop
 same-length c = c .before .loop .inv .1 .long

@@ -34,7 +34,8 @@ module _ (left : ℕ) (s : List ℕ) (at weight sum : ℕ) where
   none h = let e : left ≡ 0 = omega arith in rw e refl
 
 abbrev Inv-loop : tie.InvT-loop
-Inv-loop bytes at place₀ weight₀ sum₀ left₀ place weight sum left = Weight left weight sum × (numberFrom left bytes place weight sum ≡ readNumber bytes at)
+Inv-loop bytes at place₀ weight₀ sum₀ left₀ place weight sum left = Weight left weight sum ×
+    (numberFrom left bytes place weight sum ≡ readNumber bytes at)
 
 abbrev μ-loop : tie.MeasureT-loop
 μ-loop bytes at place₀ weight₀ sum₀ left₀ place weight sum left = left
@@ -53,19 +54,48 @@ cast-byte : tie.Need-cast-byte Inv-loop μ-loop
 cast-byte c = omega (arith, c .shared-slice-known2 .given (c .before .before .before .loop .place))
 
 ends-requires : tie.Need-ends-requires Inv-loop μ-loop
-ends-requires c κs = (small _ _ (c .if2 .taken) (weight-room _ _ _ (c .before .before .before .before .loop .inv .0) (c .before .before .before .loop-test .taken)), omega (arith, weight-most _ _ _ (c .before .before .before .before .loop .inv .0)), omega arith)
+ends-requires c κs = (
+  small _ _ (c .if2 .taken) (weight-room _ _ _ (c .before .before .before .before .loop .inv .0)
+      (c .before .before .before .loop-test .taken)),
+  omega (
+    arith,
+    weight-most _ _ _
+        (c .before .before .before .before .loop .inv .0),
+  ),
+  omega arith,
+)
 
 returns-2 : tie.Need-returns-2 Inv-loop μ-loop
-returns-2 c = c .ends .ensures ∙ sym (ended _ _ _ _ _ (c .before .before .before .before .loop-test .taken) (c .before .before .before .if1 .left) (c .before .if2 .taken)) ∙ c .before .before .before .before .before .loop .inv .1
+returns-2 c = c .ends .ensures ∙ sym (ended _ _ _ _ _ (c .before .before .before .before .loop-test .taken)
+    (c .before .before .before .if1 .left) (c .before .if2 .taken))
+    ∙ c .before .before .before .before .before .loop .inv .1
 
 mul-sum : tie.Need-mul-sum Inv-loop μ-loop
-mul-sum c = omega (arith, small (getD (now (c .before .before .before .before .before .before .args .bytes)) (c .before .before .before .before .loop .place) 0 % 128) (c .before .before .before .before .loop .weight) (omega arith) (weight-room _ _ _ (c .before .before .before .before .loop .inv .0) (c .before .before .before .loop-test .taken)))
+mul-sum c = omega (
+  arith,
+  small (getD (now (c .before .before .before .before .before .before .args .bytes))
+      (c .before .before .before .before .loop .place) 0 % 128) (c .before .before .before .before .loop .weight)
+      (omega arith) (weight-room _ _ _ (c .before .before .before .before .loop .inv .0)
+      (c .before .before .before .loop-test .taken)),
+)
 
 add-sum : tie.Need-add-sum Inv-loop μ-loop
-add-sum c = omega (arith, weight-most _ _ _ (c .before .before .before .before .loop .inv .0), small (getD (now (c .before .before .before .before .before .before .args .bytes)) (c .before .before .before .before .loop .place) 0 % 128) (c .before .before .before .before .loop .weight) (omega arith) (weight-room _ _ _ (c .before .before .before .before .loop .inv .0) (c .before .before .before .loop-test .taken)))
+add-sum c = omega (
+  arith,
+  weight-most _ _ _ (c .before .before .before .before .loop .inv .0),
+  small (getD (now
+      (c .before .before .before .before .before .before .args .bytes))
+      (c .before .before .before .before .loop .place) 0 % 128) (c .before .before .before .before .loop .weight)
+      (omega arith) (weight-room _ _ _ (c .before .before .before .before .loop .inv .0)
+      (c .before .before .before .loop-test .taken)),
+)
 
 mul-weight : tie.Need-mul-weight Inv-loop μ-loop
-mul-weight c = omega (arith, weight-room _ _ _ (c .before .before .before .before .loop .inv .0) (c .before .before .before .loop-test .taken))
+mul-weight c = omega (
+  arith,
+  weight-room _ _ _ (c .before .before .before .before .loop .inv .0)
+      (c .before .before .before .loop-test .taken),
+)
 
 add-place : tie.Need-add-place Inv-loop μ-loop
 add-place c = omega arith
@@ -77,7 +107,13 @@ loop-less : tie.Need-loop-less Inv-loop μ-loop
 loop-less c = omega arith
 
 loop-again : tie.Need-loop-again Inv-loop μ-loop
-loop-again c = (weight-next _ _ _ (c .before .before .before .before .loop .inv .0) (c .before .before .before .loop-test .taken) _ (omega arith), sym (goes-on _ _ _ _ _ (c .before .before .before .loop-test .taken) (c .before .before .if1 .left) (c .if2 .left)) ∙ c .before .before .before .before .loop .inv .1)
+loop-again c = (
+  weight-next _ _ _ (c .before .before .before .before .loop .inv .0)
+      (c .before .before .before .loop-test .taken) _ (omega arith),
+  sym (goes-on _ _ _ _ _
+      (c .before .before .before .loop-test .taken) (c .before .before .if1 .left) (c .if2 .left))
+      ∙ c .before .before .before .before .loop .inv .1,
+)
 
 tenth-requires : tie.Need-tenth-requires Inv-loop μ-loop
 tenth-requires c κs = (weight-most _ _ _ (c .before .loop .inv .0), c .before .loop .inv .0 .less)

@@ -46,7 +46,13 @@ loop-less : tie.Need-loop-less Inv-loop μ-loop
 loop-less c = omega arith
 
 loop-again : tie.Need-loop-again Inv-loop μ-loop
-loop-again c = (omega arith, omega (arith, c .before .groups .ensures .few), turn (now (c .before .before .before .before .before .before .args .numbers)) (c .before .before .before .before .loop .i) (c .before .before .before .before .loop .inv .2) (grouped-count (c .before .groups .ensures)) (omega arith))
+loop-again c = (
+  omega arith,
+  omega (arith, c .before .groups .ensures .few),
+  turn (now
+      (c .before .before .before .before .before .before .args .numbers)) (c .before .before .before .before .loop .i)
+      (c .before .before .before .before .loop .inv .2) (grouped-count (c .before .groups .ensures)) (omega arith),
+)
 
 returns : tie.Need-returns Inv-loop μ-loop
 returns c = let e : c .before .loop .i ≡ length (now (c .before .before .before .args .numbers)) = omega arith in

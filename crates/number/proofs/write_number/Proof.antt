@@ -25,7 +25,18 @@ same-length : tie.Need-same-length
 same-length c = search needs
 
 returns-3 : tie.Need-returns-3
-returns-3 c = let l = long (now (c .before .before .before .before .before .before .before .before .args .out)) (c .before .before .before .before .before .before .before .before .args .at) (numberBytes (c .before .before .before .before .before .before .before .before .args .v)) (omega (arith, grouped-count (c .before .before .before .before .before .groups .ensures))) in (ap written.Bytes (grouped-count (c .before .before .before .before .before .groups .ensures)) ∙ l .0, c .before .before .put-number .ensures .1 ∙ l .1)
+returns-3 c = let l = long (now (c .before .before .before .before .before .before .before .before .args .out))
+    (c .before .before .before .before .before .before .before .before .args .at) (numberBytes
+    (c .before .before .before .before .before .before .before .before .args .v)) (omega (
+      arith,
+      grouped-count
+          (c .before .before .before .before .before .groups .ensures),
+    )) in (
+      ap written.Bytes (grouped-count
+          (c .before .before .before .before .before .groups .ensures)) ∙ l .0,
+      c .before .before .put-number .ensures .1
+          ∙ l .1,
+    )
 
 pub write-number-spec : {M : Type 1} → statement M
 write-number-spec =

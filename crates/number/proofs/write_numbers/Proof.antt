@@ -20,7 +20,12 @@ width-requires : tie.Need-width-requires
 width-requires c κs = search needs
 
 returns-2 : tie.Need-returns-2
-returns-2 c = short _ _ _ (omega (arith, rows-length (now (c .before .before .before .before .before .before .args .head)) (now (c .before .before .before .before .before .before .args .tail))))
+returns-2 c = short _ _ _ (omega (
+  arith,
+  rows-length (now
+      (c .before .before .before .before .before .before .args .head)) (now
+      (c .before .before .before .before .before .before .args .tail)),
+))
 
 width-requires-2 : tie.Need-width-requires-2
 width-requires-2 c κs = search needs
@@ -29,7 +34,12 @@ sub-if3 : tie.Need-sub-if3
 sub-if3 c = search needs
 
 returns-3 : tie.Need-returns-3
-returns-3 c = short _ _ _ (omega (arith, rows-length (now (c .before .before .before .before .before .before .before .before .args .head)) (now (c .before .before .before .before .before .before .before .before .args .tail))))
+returns-3 c = short _ _ _ (omega (
+  arith,
+  rows-length (now
+      (c .before .before .before .before .before .before .before .before .args .head)) (now
+      (c .before .before .before .before .before .before .before .before .args .tail)),
+))
 
 put-numbers-requires : tie.Need-put-numbers-requires
 put-numbers-requires c κs = search needs
@@ -45,13 +55,17 @@ same-length c = search needs
 
 returns-4 : tie.Need-returns-4
 returns-4 c =
-    let a = c .before .before .before .before .before .before .before .before .before .before .before .before .before .before .before .before .args in
+    let a =
+    c .before .before .before .before .before .before .before .before .before .before .before .before .before .before .before .before .args in
     let rows = rows-length (now (a .head)) (now (a .tail)) in
     let l = long (now (a .out)) (a .at) (bytesOf (now (a .head) ++ now (a .tail))) (omega arith) in
-    let sum : c .before .before .before .before .before .before .before .before .before .before .before .width .result + c .before .before .before .before .before .before .before .before .before .width2 .result ≡ length (bytesOf (now (a .head) ++ now (a .tail))) = omega arith in (
+    let sum : c .before .before .before .before .before .before .before .before .before .before .before .width .result + c .before .before .before .before .before .before .before .before .before .width2 .result ≡ length
+    (bytesOf (now (a .head) ++ now (a .tail))) = omega arith in (
       ap written.Bytes sum ∙ l .0,
       c .before .before .put-numbers2 .ensures .1
-          ∙ ap₂ (λ (o : List ℕ) (k : ℕ). laid o k (bytesOf (now (a .tail)))) (c .before .before .before .before .before .before .put-numbers .ensures .1) (c .before .before .before .before .before .before .put-numbers .ensures .0)
+          ∙ ap₂ (λ (o : List ℕ) (k : ℕ). laid o k (bytesOf (now (a .tail))))
+          (c .before .before .before .before .before .before .put-numbers .ensures .1)
+          (c .before .before .before .before .before .before .put-numbers .ensures .0)
           ∙ rows-laid (now (a .out)) (a .at) (now (a .head)) (now (a .tail)) (omega arith)
           ∙ l .1,
     )

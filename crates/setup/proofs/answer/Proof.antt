@@ -21,7 +21,8 @@ unfolding setupAnswer firstAnswer
 others s l e ne = orElse-rest _ _ e ∙ simp (ne-eqb _ _ ne)
 
 -- n first readings, some of which break their rule or none does
-same : (s : Plan) (l : List ℕ) (b : Bool) → planAnswer s ≡ 0 → length l ≡ s .stations → some (badFirst s) l (length l) ≡ b → setupAnswer s l ≡ refuse b 8 0
+same : (s : Plan) (l : List ℕ) (b : Bool) → planAnswer s ≡ 0 → length l ≡ s .stations → some (badFirst s) l
+    (length l) ≡ b → setupAnswer s l ≡ refuse b 8 0
 unfolding setupAnswer firstAnswer
 same s l b e n h =
     orElse-rest _ _ e ∙ simp (eq-eqb _ _ n) (ap (λ (x : Bool). refuse x 8 0) (ap (some (badFirst s) l) (sym n) ∙ h))
@@ -34,16 +35,22 @@ unfolding setupAnswer
 returns c = c .before .plan-answer .ensures ∙ sym (orElse-first _ _ (λ e. c .if1 .taken (c .before .plan-answer .ensures ∙ e)))
 
 returns-2 : tie.Need-returns-2
-returns-2 c = sym (others _ _ (sym (c .before .before .before .plan-answer .ensures) ∙ c .before .before .if1 .left) (c .if2 .taken))
+returns-2 c = sym (others _ _ (sym (c .before .before .before .plan-answer .ensures) ∙ c .before .before .if1 .left)
+    (c .if2 .taken))
 
 some-bad-first-requires : tie.Need-some-bad-first-requires
-some-bad-first-requires c κs = planned _ (sym (c .before .before .before .plan-answer .ensures) ∙ c .before .before .if1 .left) .limits
+some-bad-first-requires c κs = planned _ (sym (c .before .before .before .plan-answer .ensures)
+    ∙ c .before .before .if1 .left) .limits
 
 returns-3 : tie.Need-returns-3
-returns-3 c = sym (same _ _ true (sym (c .before .before .before .before .before .plan-answer .ensures) ∙ c .before .before .before .before .if1 .left) (c .before .before .if2 .left) (sym (c .before .some-bad-first .ensures) ∙ c .if3 .taken))
+returns-3 c = sym (same _ _ true (sym (c .before .before .before .before .before .plan-answer .ensures)
+    ∙ c .before .before .before .before .if1 .left) (c .before .before .if2 .left) (sym
+    (c .before .some-bad-first .ensures) ∙ c .if3 .taken))
 
 returns-4 : tie.Need-returns-4
-returns-4 c = sym (same _ _ false (sym (c .before .before .before .before .before .plan-answer .ensures) ∙ c .before .before .before .before .if1 .left) (c .before .before .if2 .left) (sym (c .before .some-bad-first .ensures) ∙ c .if3 .left))
+returns-4 c = sym (same _ _ false (sym (c .before .before .before .before .before .plan-answer .ensures)
+    ∙ c .before .before .before .before .if1 .left) (c .before .before .if2 .left) (sym
+    (c .before .some-bad-first .ensures) ∙ c .if3 .left))
 
 pub answer-spec : {M : Type 1} → statement M
 answer-spec =

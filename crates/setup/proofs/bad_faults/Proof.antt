@@ -27,7 +27,8 @@ sub-result c = search needs
 
 returns-2 : tie.Need-returns-2
 unfolding badFaults
-returns-2 c = halves (c .before .before .before .before .args .plan .stations) (c .before .before .before .before .args .plan .faults) (omega arith)
+returns-2 c = halves (c .before .before .before .before .args .plan .stations)
+    (c .before .before .before .before .args .plan .faults) (omega arith)
 
 pub bad-faults-spec : {M : Type 1} → statement M
 bad-faults-spec = tie.close (tie.spec returns sub-result returns-2)

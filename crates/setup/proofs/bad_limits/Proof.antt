@@ -21,7 +21,13 @@ outside-requires-5 c κs = search needs
 
 returns : tie.Need-returns
 unfolding badLimits
-returns c = simp (c .outside5 .ensures, c .before .outside4 .ensures, c .before .before .outside3 .ensures, c .before .before .before .outside2 .ensures, c .before .before .before .before .outside .ensures)
+returns c = simp (
+  c .outside5 .ensures,
+  c .before .outside4 .ensures,
+  c .before .before .outside3 .ensures,
+  c .before .before .before .outside2 .ensures,
+  c .before .before .before .before .outside .ensures,
+)
 
 pub bad-limits-spec : {M : Type 1} → statement M
 bad-limits-spec =

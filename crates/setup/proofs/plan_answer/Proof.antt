@@ -43,7 +43,8 @@ bad-marks-requires c κs = search needs
 returns-4 : tie.Need-returns-4
 unfolding planAnswer badStations
 returns-4 c = simp (
-  sym (c .before .before .before .before .before .before .before .outside .ensures) ∙ c .before .before .before .before .before .before .if1 .left,
+  sym (c .before .before .before .before .before .before .before .outside .ensures)
+      ∙ c .before .before .before .before .before .before .if1 .left,
   sym (c .before .before .before .before .before .bad-faults .ensures) ∙ c .before .before .before .before .if2 .left,
   sym (c .before .before .before .bad-limits .ensures) ∙ c .before .before .if3 .left,
   sym (c .before .bad-marks .ensures) ∙ c .if4 .taken,
@@ -55,37 +56,50 @@ gap-requires c κs = in-limits _ (sym (c .before .before .before .bad-limits .en
 returns-5 : tie.Need-returns-5
 unfolding planAnswer badStations
 returns-5 c = simp (
-  sym (c .before .before .before .before .before .before .before .before .before .outside .ensures) ∙ c .before .before .before .before .before .before .before .before .if1 .left,
-  sym (c .before .before .before .before .before .before .before .bad-faults .ensures) ∙ c .before .before .before .before .before .before .if2 .left,
+  sym (c .before .before .before .before .before .before .before .before .before .outside .ensures)
+      ∙ c .before .before .before .before .before .before .before .before .if1 .left,
+  sym (c .before .before .before .before .before .before .before .bad-faults .ensures)
+      ∙ c .before .before .before .before .before .before .if2 .left,
   sym (c .before .before .before .before .before .bad-limits .ensures) ∙ c .before .before .before .before .if3 .left,
   sym (c .before .before .before .bad-marks .ensures) ∙ c .before .before .if4 .left,
   sym (c .before .gap .ensures) ∙ not-true _ (c .if5 .taken),
 )
 
 steps-requires : tie.Need-steps-requires
-steps-requires c κs = in-limits _ (sym (c .before .before .before .before .before .bad-limits .ensures) ∙ c .before .before .before .before .if3 .left)
+steps-requires c κs = in-limits _ (sym (c .before .before .before .before .before .bad-limits .ensures)
+    ∙ c .before .before .before .before .if3 .left)
 
 returns-6 : tie.Need-returns-6
 unfolding planAnswer badStations
 returns-6 c = simp (
-  sym (c .before .before .before .before .before .before .before .before .before .before .before .outside .ensures) ∙ c .before .before .before .before .before .before .before .before .before .before .if1 .left,
-  sym (c .before .before .before .before .before .before .before .before .before .bad-faults .ensures) ∙ c .before .before .before .before .before .before .before .before .if2 .left,
-  sym (c .before .before .before .before .before .before .before .bad-limits .ensures) ∙ c .before .before .before .before .before .before .if3 .left,
+  sym (c .before .before .before .before .before .before .before .before .before .before .before .outside .ensures)
+      ∙ c .before .before .before .before .before .before .before .before .before .before .if1 .left,
+  sym (c .before .before .before .before .before .before .before .before .before .bad-faults .ensures)
+      ∙ c .before .before .before .before .before .before .before .before .if2 .left,
+  sym (c .before .before .before .before .before .before .before .bad-limits .ensures)
+      ∙ c .before .before .before .before .before .before .if3 .left,
   sym (c .before .before .before .before .before .bad-marks .ensures) ∙ c .before .before .before .before .if4 .left,
   sym (c .before .before .before .gap .ensures) ∙ not-false _ (c .before .before .if5 .left),
   sym (c .before .steps .ensures) ∙ not-true _ (c .if6 .taken),
 )
 
 spreads-requires : tie.Need-spreads-requires
-spreads-requires c κs = in-limits _ (sym (c .before .before .before .before .before .before .before .bad-limits .ensures) ∙ c .before .before .before .before .before .before .if3 .left)
+spreads-requires c κs = in-limits _ (sym
+    (c .before .before .before .before .before .before .before .bad-limits .ensures)
+    ∙ c .before .before .before .before .before .before .if3 .left)
 
 returns-7 : tie.Need-returns-7
 unfolding planAnswer badStations
 returns-7 c = simp (
-  sym (c .before .before .before .before .before .before .before .before .before .before .before .before .before .outside .ensures) ∙ c .before .before .before .before .before .before .before .before .before .before .before .before .if1 .left,
-  sym (c .before .before .before .before .before .before .before .before .before .before .before .bad-faults .ensures) ∙ c .before .before .before .before .before .before .before .before .before .before .if2 .left,
-  sym (c .before .before .before .before .before .before .before .before .before .bad-limits .ensures) ∙ c .before .before .before .before .before .before .before .before .if3 .left,
-  sym (c .before .before .before .before .before .before .before .bad-marks .ensures) ∙ c .before .before .before .before .before .before .if4 .left,
+  sym
+      (c .before .before .before .before .before .before .before .before .before .before .before .before .before .outside .ensures)
+      ∙ c .before .before .before .before .before .before .before .before .before .before .before .before .if1 .left,
+  sym (c .before .before .before .before .before .before .before .before .before .before .before .bad-faults .ensures)
+      ∙ c .before .before .before .before .before .before .before .before .before .before .if2 .left,
+  sym (c .before .before .before .before .before .before .before .before .before .bad-limits .ensures)
+      ∙ c .before .before .before .before .before .before .before .before .if3 .left,
+  sym (c .before .before .before .before .before .before .before .bad-marks .ensures)
+      ∙ c .before .before .before .before .before .before .if4 .left,
   sym (c .before .before .before .before .before .gap .ensures) ∙ not-false _ (c .before .before .before .before .if5 .left),
   sym (c .before .before .before .steps .ensures) ∙ not-false _ (c .before .before .if6 .left),
   sym (c .before .spreads .ensures) ∙ not-true _ (c .if7 .taken),
@@ -94,10 +108,15 @@ returns-7 c = simp (
 returns-8 : tie.Need-returns-8
 unfolding planAnswer badStations
 returns-8 c = simp (
-  sym (c .before .before .before .before .before .before .before .before .before .before .before .before .before .outside .ensures) ∙ c .before .before .before .before .before .before .before .before .before .before .before .before .if1 .left,
-  sym (c .before .before .before .before .before .before .before .before .before .before .before .bad-faults .ensures) ∙ c .before .before .before .before .before .before .before .before .before .before .if2 .left,
-  sym (c .before .before .before .before .before .before .before .before .before .bad-limits .ensures) ∙ c .before .before .before .before .before .before .before .before .if3 .left,
-  sym (c .before .before .before .before .before .before .before .bad-marks .ensures) ∙ c .before .before .before .before .before .before .if4 .left,
+  sym
+      (c .before .before .before .before .before .before .before .before .before .before .before .before .before .outside .ensures)
+      ∙ c .before .before .before .before .before .before .before .before .before .before .before .before .if1 .left,
+  sym (c .before .before .before .before .before .before .before .before .before .before .before .bad-faults .ensures)
+      ∙ c .before .before .before .before .before .before .before .before .before .before .if2 .left,
+  sym (c .before .before .before .before .before .before .before .before .before .bad-limits .ensures)
+      ∙ c .before .before .before .before .before .before .before .before .if3 .left,
+  sym (c .before .before .before .before .before .before .before .bad-marks .ensures)
+      ∙ c .before .before .before .before .before .before .if4 .left,
   sym (c .before .before .before .before .before .gap .ensures) ∙ not-false _ (c .before .before .before .before .if5 .left),
   sym (c .before .before .before .steps .ensures) ∙ not-false _ (c .before .before .if6 .left),
   sym (c .before .spreads .ensures) ∙ not-false _ (c .if7 .left),

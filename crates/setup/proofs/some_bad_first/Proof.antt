@@ -38,7 +38,8 @@ loop-again : tie.Need-loop-again Inv-loop μ-loop
 loop-again c = (omega arith, some-more _ _ _ (c .before .before .before .loop .inv .1) (c .bad-first .ensures))
 
 returns : tie.Need-returns Inv-loop μ-loop
-returns c = let e : c .before .loop .i ≡ length (now (c .before .before .before .args .first)) = omega arith in c .before .loop .inv .1 ∙ ap (some _ _) e
+returns c = let e : c .before .loop .i ≡ length (now (c .before .before .before .args .first)) =
+    omega arith in c .before .loop .inv .1 ∙ ap (some _ _) e
 
 pub some-bad-first-spec : {M : Type 1} → statement M
 some-bad-first-spec =

@@ -41,7 +41,12 @@ mul-result-8 : tie.Need-mul-result-8
 mul-result-8 c = omega (arith, bound-rates _ (c .before .before .before .before .pre))
 
 add-result-2 : tie.Need-add-result-2
-add-result-2 c = omega (arith, gain-most _ (c .before .before .before .before .pre), bound-rates _ (c .before .before .before .before .pre))
+add-result-2 c = omega (
+  arith,
+  gain-most _ (c .before .before .before .before .pre),
+  bound-rates _
+      (c .before .before .before .before .pre),
+)
 
 mul-result-9 : tie.Need-mul-result-9
 mul-result-9 c = omega (arith, spread-rate _ (c .before .before .before .before .before .pre))

@@ -31,7 +31,8 @@ still-requires c κs = search needs
 
 returns : tie.Need-returns
 unfolding advanceAnswer
-returns c = answered-no 10 _ _ _ _ (rw (sym (c .before .before .bad-board .ensures) ∙ c .before .if1 .taken)) (λ z. omega arith) (c .still .ensures)
+returns c = answered-no 10 _ _ _ _ (rw (sym (c .before .before .bad-board .ensures) ∙ c .before .if1 .taken))
+    (λ z. omega arith) (c .still .ensures)
 
 has-requires : tie.Need-has-requires
 has-requires c κs = search needs
@@ -41,7 +42,13 @@ still-requires-2 c κs = search needs
 
 returns-2 : tie.Need-returns-2
 unfolding advanceAnswer
-returns-2 c = answered-no 11 _ _ _ _ (rw ((sym (c .before .before .before .before .before .bad-board .ensures) ∙ c .before .before .before .before .if1 .left), ← c .before .before .has .ensures, c .before .if2 .taken)) (λ z. omega arith) (c .still2 .ensures)
+returns-2 c = answered-no 11 _ _ _ _ (rw (
+  (sym (c .before .before .before .before .before .bad-board .ensures)
+      ∙ c .before .before .before .before .if1 .left),
+  ← c .before .before .has .ensures,
+  c .before .if2 .taken,
+))
+    (λ z. omega arith) (c .still2 .ensures)
 
 refuses-requires : tie.Need-refuses-requires
 refuses-requires c κs = search needs
@@ -53,20 +60,41 @@ returns-3 : tie.Need-returns-3
 unfolding advanceAnswer
 returns-3 c =
     let a = c .before .before .before .before .before .before .before .before .args in
-    let w = within (a .plan) (a .by) (a .s) (sym (c .before .before .before .before .before .before .before .bad-board .ensures) ∙ c .before .before .before .before .before .before .if1 .left) (leb (a .plan .stations) (a .i) || c .before .before .before .before .has .result) (c .before .before .before .if2 .left) in
-    answered-no _ _ _ _ _ (rw ((sym (c .before .before .before .before .before .before .before .bad-board .ensures) ∙ c .before .before .before .before .before .before .if1 .left), ← c .before .before .before .before .has .ensures, c .before .before .before .if2 .left) (sym (rw (is-steady (a .plan) (a .by) (a .s) w) at (c .before .before .refuses .ensures)))) (c .before .if3 .taken) (c .still3 .ensures)
+    let w = within (a .plan) (a .by) (a .s) (sym
+    (c .before .before .before .before .before .before .before .bad-board .ensures)
+    ∙ c .before .before .before .before .before .before .if1 .left) (leb (a .plan .stations)
+    (a .i) || c .before .before .before .before .has .result) (c .before .before .before .if2 .left) in
+    answered-no _ _ _ _ _ (rw (
+      (sym (c .before .before .before .before .before .before .before .bad-board .ensures)
+          ∙ c .before .before .before .before .before .before .if1 .left),
+      ← c .before .before .before .before .has .ensures,
+      c .before .before .before .if2 .left,
+    ) (sym (rw (is-steady
+    (a .plan) (a .by) (a .s) w) at (c .before .before .refuses .ensures)))) (c .before .if3 .taken)
+    (c .still3 .ensures)
 
 go-on-requires : tie.Need-go-on-requires
 go-on-requires c κs =
     let a = c .before .before .before .before .before .before .before .args in
-    within (a .plan) (a .by) (a .s) (sym (c .before .before .before .before .before .before .bad-board .ensures) ∙ c .before .before .before .before .before .if1 .left) (leb (a .plan .stations) (a .i) || c .before .before .before .has .result) (c .before .before .if2 .left)
+    within (a .plan) (a .by) (a .s) (sym (c .before .before .before .before .before .before .bad-board .ensures)
+    ∙ c .before .before .before .before .before .if1 .left) (leb (a .plan .stations)
+    (a .i) || c .before .before .before .has .result) (c .before .before .if2 .left)
 
 returns-4 : tie.Need-returns-4
 unfolding advanceAnswer
 returns-4 c =
     let a = c .before .before .before .before .before .before .before .before .args in
-    let w = within (a .plan) (a .by) (a .s) (sym (c .before .before .before .before .before .before .before .bad-board .ensures) ∙ c .before .before .before .before .before .before .if1 .left) (leb (a .plan .stations) (a .i) || c .before .before .before .before .has .result) (c .before .before .before .if2 .left) in
-    answered-yes _ _ _ _ (rw ((sym (c .before .before .before .before .before .before .before .bad-board .ensures) ∙ c .before .before .before .before .before .before .if1 .left), ← c .before .before .before .before .has .ensures, c .before .before .before .if2 .left) (sym (rw (is-steady (a .plan) (a .by) (a .s) w) at (c .before .before .refuses .ensures)) ∙ c .before .if3 .left)) (c .go-on .ensures)
+    let w = within (a .plan) (a .by) (a .s) (sym
+    (c .before .before .before .before .before .before .before .bad-board .ensures)
+    ∙ c .before .before .before .before .before .before .if1 .left) (leb (a .plan .stations)
+    (a .i) || c .before .before .before .before .has .result) (c .before .before .before .if2 .left) in
+    answered-yes _ _ _ _ (rw (
+      (sym (c .before .before .before .before .before .before .before .bad-board .ensures)
+          ∙ c .before .before .before .before .before .before .if1 .left),
+      ← c .before .before .before .before .has .ensures,
+      c .before .before .before .if2 .left,
+    ) (sym (rw (is-steady
+    (a .plan) (a .by) (a .s) w) at (c .before .before .refuses .ensures)) ∙ c .before .if3 .left)) (c .go-on .ensures)
 
 pub advance-spec : {M : Type 1} → statement M
 advance-spec =

@@ -19,7 +19,8 @@ bad-station-requires c κs = search needs
 
 returns-2 : tie.Need-returns-2
 unfolding badBoard
-returns-2 c = let z = sym (c .before .before .plan-answer .ensures) ∙ c .before .if1 .left in c .bad-station .ensures ∙ rw (plan-limits _ z, z)
+returns-2 c = let z = sym (c .before .before .plan-answer .ensures) ∙ c .before .if1 .left in c .bad-station .ensures
+    ∙ rw (plan-limits _ z, z)
 
 pub bad-board-spec : {M : Type 1} → statement M
 bad-board-spec = tie.close (tie.spec plan-answer-requires returns bad-station-requires returns-2)

@@ -21,18 +21,37 @@ bad-numbers-requires c κs = search needs
 
 returns-3 : tie.Need-returns-3
 unfolding pastLimits badStation
-returns-3 c = rw (le-ltb _ _ (c .before .before .before .before .if1 .left), le-ltb _ _ (c .before .before .if2 .left), (sym (c .before .bad-numbers .ensures) ∙ c .if3 .taken))
+returns-3 c = rw (
+  le-ltb _ _ (c .before .before .before .before .if1 .left),
+  le-ltb _ _
+      (c .before .before .if2 .left),
+  (sym (c .before .bad-numbers .ensures) ∙ c .if3 .taken),
+)
 
 bad-signed-requires : tie.Need-bad-signed-requires
 unfolding badNumbers
-bad-signed-requires c κs = record { round = ltb-false _ _ (neither _ _ (neither _ _ (sym (c .before .bad-numbers .ensures) ∙ c .if3 .left) .0) .0); period = c .before .before .before .before .if1 .left; step = c .before .before .if2 .left }
+bad-signed-requires c κs = record {
+  round = ltb-false _ _ (neither _ _ (neither _ _ (sym
+      (c .before .bad-numbers .ensures) ∙ c .if3 .left) .0) .0);
+  period =
+      c .before .before .before .before .if1 .left;
+  step = c .before .before .if2 .left;
+}
 
 bad-gathered-requires : tie.Need-bad-gathered-requires
 bad-gathered-requires c κs = search needs
 
 returns-4 : tie.Need-returns-4
 unfolding pastLimits badStation
-returns-4 c = rw (le-ltb _ _ (c .before .before .before .before .before .before .if1 .left), le-ltb _ _ (c .before .before .before .before .if2 .left), (sym (c .before .before .before .bad-numbers .ensures) ∙ c .before .before .if3 .left), c .before .bad-signed .ensures, c .bad-gathered .ensures)
+returns-4 c = rw (
+  le-ltb _ _ (c .before .before .before .before .before .before .if1 .left),
+  le-ltb _ _
+      (c .before .before .before .before .if2 .left),
+  (sym (c .before .before .before .bad-numbers .ensures)
+      ∙ c .before .before .if3 .left),
+  c .before .bad-signed .ensures,
+  c .bad-gathered .ensures,
+)
 
 pub bad-station-spec : {M : Type 1} → statement M
 bad-station-spec =

@@ -17,7 +17,12 @@ join-requires : tie.Need-join-requires
 join-requires c κs = search needs
 
 settle-requires : tie.Need-settle-requires
-settle-requires c κs = record { round = c .before .before .before .pre .round; period = c .before .before .before .pre .period; step = c .before .before .before .pre .step }
+settle-requires c κs = record {
+  round = c .before .before .before .pre .round;
+  period =
+      c .before .before .before .pre .period;
+  step = c .before .before .before .pre .step;
+}
 
 returns-2 : tie.Need-returns-2
 returns-2 c = hear-own _ _ _ _ _ _ (c .before .before .if1 .left) (c .before .join .ensures) (c .settle .ensures)

@@ -12,16 +12,25 @@ lands-requires : tie.Need-lands-requires
 lands-requires c κs = c .before .pre
 
 sign-requires : tie.Need-sign-requires
-sign-requires c κs = record { round = c .before .before .before .pre .limits .round; period = c .before .before .before .pre .limits .period; step = c .before .before .before .pre .limits .step }
+sign-requires c κs = record {
+  round = c .before .before .before .pre .limits .round;
+  period =
+      c .before .before .before .pre .limits .period;
+  step = c .before .before .before .pre .limits .step;
+}
 
 returns : tie.Need-returns
-returns c = advance-lands _ _ _ _ (c .before .before .before .before .pre) _ (c .before .before .before .on .ensures) _ (sym (c .before .before .lands .ensures) ∙ c .before .if1 .taken) (c .sign .ensures)
+returns c = advance-lands _ _ _ _ (c .before .before .before .before .pre) _
+    (c .before .before .before .on .ensures) _ (sym (c .before .before .lands .ensures) ∙ c .before .if1 .taken)
+    (c .sign .ensures)
 
 still-requires : tie.Need-still-requires
 still-requires c κs = search needs
 
 returns-2 : tie.Need-returns-2
-returns-2 c = advance-goes _ _ _ _ (c .before .before .before .before .pre) _ (c .before .before .before .on .ensures) _ (sym (c .before .before .lands .ensures) ∙ c .before .if1 .left) (c .still .ensures)
+returns-2 c = advance-goes _ _ _ _ (c .before .before .before .before .pre) _
+    (c .before .before .before .on .ensures) _ (sym (c .before .before .lands .ensures) ∙ c .before .if1 .left)
+    (c .still .ensures)
 
 pub go-on-spec : {M : Type 1} → statement M
 go-on-spec =

@@ -15,7 +15,8 @@ still-requires c κs = search needs
 
 returns : tie.Need-returns
 unfolding hearAnswer
-returns c = answered-no 10 _ _ _ _ (rw (sym (c .before .before .bad-board .ensures) ∙ c .before .if1 .taken)) (λ z. omega arith) (c .still .ensures)
+returns c = answered-no 10 _ _ _ _ (rw (sym (c .before .before .bad-board .ensures) ∙ c .before .if1 .taken))
+    (λ z. omega arith) (c .still .ensures)
 
 outside-requires : tie.Need-outside-requires
 outside-requires c κs = search needs
@@ -28,14 +29,27 @@ still-requires-2 c κs = search needs
 
 returns-2 : tie.Need-returns-2
 unfolding hearAnswer
-returns-2 c = answered-no 11 _ _ _ _ (rw ((sym (c .before .before .before .before .before .bad-board .ensures) ∙ c .before .before .before .before .if1 .left), ← c .before .before .before .outside .ensures, ← c .before .before .below .ensures, c .before .if2 .taken)) (λ z. omega arith) (c .still2 .ensures)
+returns-2 c = answered-no 11 _ _ _ _ (rw (
+  (sym (c .before .before .before .before .before .bad-board .ensures)
+      ∙ c .before .before .before .before .if1 .left),
+  ← c .before .before .before .outside .ensures,
+  ← c .before .before .below .ensures,
+  c .before .if2 .taken,
+)) (λ z. omega arith) (c .still2 .ensures)
 
 gather-requires : tie.Need-gather-requires
-gather-requires c κs = sound-small _ _ (sym (c .before .before .before .before .bad-board .ensures) ∙ c .before .before .before .if1 .left) .0
+gather-requires c κs = sound-small _ _ (sym (c .before .before .before .before .bad-board .ensures)
+    ∙ c .before .before .before .if1 .left) .0
 
 returns-3 : tie.Need-returns-3
 unfolding hearAnswer
-returns-3 c = answered-yes _ _ _ _ (rw ((sym (c .before .before .before .before .before .bad-board .ensures) ∙ c .before .before .before .before .if1 .left), ← c .before .before .before .outside .ensures, ← c .before .before .below .ensures, c .before .if2 .left)) (c .gather .ensures)
+returns-3 c = answered-yes _ _ _ _ (rw (
+  (sym (c .before .before .before .before .before .bad-board .ensures)
+      ∙ c .before .before .before .before .if1 .left),
+  ← c .before .before .before .outside .ensures,
+  ← c .before .before .below .ensures,
+  c .before .if2 .left,
+)) (c .gather .ensures)
 
 pub hear-spec : {M : Type 1} → statement M
 hear-spec =

@@ -18,18 +18,34 @@ exceeds-requires c κs = steady-is _ _ _ (sym (c .before .steady .ensures) ∙ n
 
 returns-2 : tie.Need-returns-2
 unfolding moveAnswer
-returns-2 c = rw ((sym (c .before .before .before .steady .ensures) ∙ not-false _ (c .before .before .if1 .left)), (sym (c .before .exceeds .ensures) ∙ c .if2 .taken))
+returns-2 c = rw (
+  (sym (c .before .before .before .steady .ensures) ∙ not-false _ (c .before .before .if1 .left)),
+  (sym (c .before .exceeds .ensures) ∙ c .if2 .taken),
+)
 
 passes-requires : tie.Need-passes-requires
-passes-requires c κs = steady-is _ _ _ (sym (c .before .before .before .steady .ensures) ∙ not-false _ (c .before .before .if1 .left))
+passes-requires c κs = steady-is _ _ _ (sym (c .before .before .before .steady .ensures) ∙ not-false _
+    (c .before .before .if1 .left))
 
 returns-3 : tie.Need-returns-3
 unfolding moveAnswer
-returns-3 c = rw ((sym (c .before .before .before .before .before .steady .ensures) ∙ not-false _ (c .before .before .before .before .if1 .left)), (sym (c .before .before .before .exceeds .ensures) ∙ c .before .before .if2 .left), (sym (c .before .passes .ensures) ∙ c .if3 .taken))
+returns-3 c = rw (
+  (sym (c .before .before .before .before .before .steady .ensures) ∙ not-false _
+      (c .before .before .before .before .if1 .left)),
+  (sym (c .before .before .before .exceeds .ensures)
+      ∙ c .before .before .if2 .left),
+  (sym (c .before .passes .ensures) ∙ c .if3 .taken),
+)
 
 returns-4 : tie.Need-returns-4
 unfolding moveAnswer
-returns-4 c = rw ((sym (c .before .before .before .before .before .steady .ensures) ∙ not-false _ (c .before .before .before .before .if1 .left)), (sym (c .before .before .before .exceeds .ensures) ∙ c .before .before .if2 .left), (sym (c .before .passes .ensures) ∙ c .if3 .left))
+returns-4 c = rw (
+  (sym (c .before .before .before .before .before .steady .ensures) ∙ not-false _
+      (c .before .before .before .before .if1 .left)),
+  (sym (c .before .before .before .exceeds .ensures)
+      ∙ c .before .before .if2 .left),
+  (sym (c .before .passes .ensures) ∙ c .if3 .left),
+)
 
 pub refuses-spec : {M : Type 1} → statement M
 refuses-spec =

@@ -14,7 +14,12 @@ join-requires : tie.Need-join-requires
 join-requires c κs = search needs
 
 settle-requires : tie.Need-settle-requires
-settle-requires c κs = record { round = c .before .before .before .pre .round; period = c .before .before .before .pre .period; step = c .before .before .before .pre .step }
+settle-requires c κs = record {
+  round = c .before .before .before .pre .round;
+  period =
+      c .before .before .before .pre .period;
+  step = c .before .before .before .pre .step;
+}
 
 returns : tie.Need-returns
 returns c = sign-is _ _ _ _ _ _ (c .before .before .only .ensures) (c .before .join .ensures) (c .settle .ensures)

@@ -24,7 +24,9 @@ no-event-requires c κs = search needs
 
 returns : tie.Need-returns
 unfolding refusalOf
-returns c = unread-event _ _ _ _ _ (c .no-event .ensures) (c .before .refusal .ensures ∙ ap refusalOf (c .before .before .enum-told .given .1)) (advance-refused _ _ _ _ (sym (c .before .before .before .before .read-number .ensures) ∙ c .before .before .enum-told .given .1))
+returns c = unread-event _ _ _ _ _ (c .no-event .ensures) (c .before .refusal .ensures ∙ ap refusalOf
+    (c .before .before .enum-told .given .1)) (advance-refused _ _ _ _ (sym
+    (c .before .before .before .before .read-number .ensures) ∙ c .before .before .enum-told .given .1))
 
 read-numbers-requires : tie.Need-read-numbers-requires
 read-numbers-requires c κs = search needs
@@ -33,10 +35,16 @@ no-event-requires-2 : tie.Need-no-event-requires-2
 no-event-requires-2 c κs = search needs
 
 returns-2 : tie.Need-returns-2
-returns-2 c = unread-event _ _ _ _ _ (c .no-event2 .ensures) refl (advance-stopped _ _ _ _ _ _ (sym (c .before .before .before .before .before .before .before .read-number .ensures) ∙ c .before .before .before .before .before .answer .given .1) (lost _ _ _ _ (c .before .before .before .read-numbers .ensures) (c .before .if1 .taken)))
+returns-2 c = unread-event _ _ _ _ _ (c .no-event2 .ensures) refl (advance-stopped _ _ _ _ _ _ (sym
+    (c .before .before .before .before .before .before .before .read-number .ensures)
+    ∙ c .before .before .before .before .before .answer .given .1) (lost _ _ _ _
+    (c .before .before .before .read-numbers .ensures) (c .before .if1 .taken)))
 
 returns-3 : tie.Need-returns-3
-returns-3 c = let a = (got _ _ _ _ (c .before .before .before .read-numbers .ensures) (c .before .if1 .left)) in whole-event _ _ _ _ (a .vs) _ _ (advance-whole _ _ _ _ _ _ (a .vs) (sym (c .before .before .before .before .before .before .before .read-number .ensures) ∙ c .before .before .before .before .before .answer .given .1) (a .is)) (a .values) refl
+returns-3 c = let a = (got _ _ _ _ (c .before .before .before .read-numbers .ensures)
+    (c .before .if1 .left)) in whole-event _ _ _ _ (a .vs) _ _ (advance-whole _ _ _ _ _ _ (a .vs) (sym
+    (c .before .before .before .before .before .before .before .read-number .ensures)
+    ∙ c .before .before .before .before .before .answer .given .1) (a .is)) (a .values) refl
 
 pub read-advance-spec : {M : Type 1} → statement M
 read-advance-spec =

@@ -17,7 +17,8 @@ no-event-requires : tie.Need-no-event-requires
 no-event-requires c κs = search needs
 
 returns : tie.Need-returns
-returns c = unread-event _ _ _ _ _ (c .no-event .ensures) refl (ap deliverFrom (lost _ _ _ _ (c .before .before .before .read-numbers .ensures) (c .before .if1 .taken)))
+returns c = unread-event _ _ _ _ _ (c .no-event .ensures) refl (ap deliverFrom (lost _ _ _ _
+    (c .before .before .before .read-numbers .ensures) (c .before .if1 .taken)))
 
 array-read-t9 : tie.Need-array-read-t9
 array-read-t9 c = search needs

@@ -34,7 +34,8 @@ returns : tie.Need-returns Inv-loop μ-loop
 unfolding refusalOf
 returns c =
     stopped-numbers _ _ _ _
-    (taken-stopped _ _ _ _ _ _ (c .before .before .before .before .before .loop .inv) (c .before .before .before .before .loop-test .taken) _
+    (taken-stopped _ _ _ _ _ _ (c .before .before .before .before .before .loop .inv)
+    (c .before .before .before .before .loop-test .taken) _
     (sym (c .before .before .before .read-number .ensures) ∙ c .before .enum-told .given .1))
     (c .refusal .ensures ∙ ap refusalOf (c .before .enum-told .given .1))
 
@@ -51,7 +52,10 @@ loop-less : tie.Need-loop-less Inv-loop μ-loop
 loop-less c = omega arith
 
 loop-again : tie.Need-loop-again Inv-loop μ-loop
-loop-again c = taken-next _ _ _ _ _ _ (c .before .before .before .before .before .loop .inv) (c .before .before .before .before .loop-test .taken) (c .before .before .before .before .before .before .before .pre) _ _ (sym (c .before .before .before .read-number .ensures) ∙ c .before .answer .given .1)
+loop-again c = taken-next _ _ _ _ _ _ (c .before .before .before .before .before .loop .inv)
+    (c .before .before .before .before .loop-test .taken)
+    (c .before .before .before .before .before .before .before .pre) _ _ (sym
+    (c .before .before .before .read-number .ensures) ∙ c .before .answer .given .1)
 
 returns-2 : tie.Need-returns-2 Inv-loop μ-loop
 returns-2 c = taken-numbers _ _ _ _ _ _ (c .before .loop .inv) (c .loop-test .left)

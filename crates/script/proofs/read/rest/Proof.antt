@@ -36,7 +36,8 @@ returns : tie.Need-returns
 unfolding restOf restAt
 returns c =
     let b = c .before .before .before .args .bytes in
-    let e : c .before .read-setup .result .next ≡ restAt (b .now) = ap (λ (r : SetupRead). r .next) (c .before .read-setup .ensures) in
+    let e : c .before .read-setup .result .next ≡ restAt (b .now) = ap (λ (r : SetupRead). r .next)
+    (c .before .read-setup .ensures) in
     (behind (b .now) _ ∙ ap (λ (k : ℕ). drop k (b .now)) e, λ i. (b .ptr .0, e i + b .ptr .1))
 
 pub rest-spec : {M : Type 1} → statement M

@@ -18,11 +18,13 @@ barred-requires c κs = search needs
 
 returns-2 : tie.Need-returns-2
 unfolding eventAnswer
-returns-2 c = sym (orElse-rest _ _ (sym (c .before .before .before .plan-answer .ensures) ∙ c .before .before .if1 .left) ∙ rw (sym (c .before .barred .ensures) ∙ c .if2 .taken))
+returns-2 c = sym (orElse-rest _ _ (sym (c .before .before .before .plan-answer .ensures)
+    ∙ c .before .before .if1 .left) ∙ rw (sym (c .before .barred .ensures) ∙ c .if2 .taken))
 
 returns-3 : tie.Need-returns-3
 unfolding eventAnswer
-returns-3 c = sym (orElse-rest _ _ (sym (c .before .before .before .plan-answer .ensures) ∙ c .before .before .if1 .left) ∙ rw (sym (c .before .barred .ensures) ∙ c .if2 .left))
+returns-3 c = sym (orElse-rest _ _ (sym (c .before .before .before .plan-answer .ensures)
+    ∙ c .before .before .if1 .left) ∙ rw (sym (c .before .barred .ensures) ∙ c .if2 .left))
 
 pub event-answer-spec : {M : Type 1} → statement M
 event-answer-spec =

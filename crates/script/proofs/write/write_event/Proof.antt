@@ -49,21 +49,32 @@ same-length c = search needs
 
 returns-2 : tie.Need-returns-2
 unfolding eventNumbers
-returns-2 c = accepted-writes _ _ _ _ _ (c .before .before .before .before .before .before .before .before .before .event-answer .ensures) (c .before .before .before .before .before .before .before .before .if1 .left) _ _ _ (rw (c .before .before .before .before .before .before .event .given .1)) (c .before .before .write-numbers .ensures)
+returns-2 c = accepted-writes _ _ _ _ _
+    (c .before .before .before .before .before .before .before .before .before .event-answer .ensures)
+    (c .before .before .before .before .before .before .before .before .if1 .left) _ _ _ (rw
+    (c .before .before .before .before .before .before .event .given .1)) (c .before .before .write-numbers .ensures)
 
 same-length-2 : tie.Need-same-length-2
 same-length-2 c = search needs
 
 returns-3 : tie.Need-returns-3
 unfolding eventNumbers
-returns-3 c = accepted-writes _ _ _ _ _ (c .before .before .before .before .before .before .before .before .before .before .event-answer .ensures) (c .before .before .before .before .before .before .before .before .before .if1 .left) _ _ _ (rw (c .before .before .before .before .before .before .before .event2 .given .1)) (c .before .before .write-numbers2 .ensures)
+returns-3 c = accepted-writes _ _ _ _ _
+    (c .before .before .before .before .before .before .before .before .before .before .event-answer .ensures)
+    (c .before .before .before .before .before .before .before .before .before .if1 .left) _ _ _ (rw
+    (c .before .before .before .before .before .before .before .event2 .given .1))
+    (c .before .before .write-numbers2 .ensures)
 
 same-length-3 : tie.Need-same-length-3
 same-length-3 c = search needs
 
 returns-4 : tie.Need-returns-4
 unfolding eventNumbers
-returns-4 c = accepted-writes _ _ _ _ _ (c .before .before .before .before .before .before .before .before .before .before .event-answer .ensures) (c .before .before .before .before .before .before .before .before .before .if1 .left) _ _ _ (rw (c .before .before .before .before .before .before .before .event3 .given .1)) (c .before .before .write-numbers3 .ensures)
+returns-4 c = accepted-writes _ _ _ _ _
+    (c .before .before .before .before .before .before .before .before .before .before .event-answer .ensures)
+    (c .before .before .before .before .before .before .before .before .before .if1 .left) _ _ _ (rw
+    (c .before .before .before .before .before .before .before .event3 .given .1))
+    (c .before .before .write-numbers3 .ensures)
 
 pub write-event-spec : {M : Type 1} → statement M
 write-event-spec =

@@ -22,7 +22,8 @@ same-length c = search needs
 
 returns-2 : tie.Need-returns-2
 unfolding setupNumbers
-returns-2 c = accepted-writes _ _ _ _ _ (c .before .before .before .before .before .before .answer .ensures) (c .before .before .before .before .before .if1 .left) _ _ _ refl (c .before .before .write-numbers .ensures)
+returns-2 c = accepted-writes _ _ _ _ _ (c .before .before .before .before .before .before .answer .ensures)
+    (c .before .before .before .before .before .if1 .left) _ _ _ refl (c .before .before .write-numbers .ensures)
 
 pub write-setup-spec : {M : Type 1} → statement M
 write-setup-spec =
