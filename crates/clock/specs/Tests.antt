@@ -15,9 +15,9 @@ abbrev pub outside : ℕ → ℕ → ℕ → Bool
 outside low high x = ltb x low || ltb high x
 
 -- one of the first k of l has p, which is asked of its index and of itself
-unfoldable pub some : (ℕ → ℕ → Bool) → List ℕ → ℕ → Bool
-some p l zero = false
-some p l (suc k) = some p l k || p k (getD l k 0)
+unfoldable pub someTo : (ℕ → ℕ → Bool) → List ℕ → ℕ → Bool
+someTo p l zero = false
+someTo p l (suc k) = someTo p l k || p k (getD l k 0)
 
 -- both parts of a test that holds
 pub both : (a b : Bool) → (a && b) ≡ true → (a ≡ true) × (b ≡ true)
@@ -41,23 +41,23 @@ pub not-outside : (low high x : ℕ) → low ≤ x → x ≤ high → outside lo
 not-outside low high x l h = simp (le-ltb x low l, le-ltb high x h)
 
 -- none of the first 0
-pub some-none : (p : ℕ → ℕ → Bool) (l : List ℕ) → some p l 0 ≡ false
-unfolding some
-some-none p l = refl
+pub someTo-none : (p : ℕ → ℕ → Bool) (l : List ℕ) → someTo p l 0 ≡ false
+unfolding someTo
+someTo-none p l = refl
 
 -- one more asked
-pub some-more : (p : ℕ → ℕ → Bool) (l : List ℕ) (i : ℕ) {before here : Bool}
-    → before ≡ some p l i → here ≡ p i (getD l i 0) → (before || here) ≡ some p l (i + 1)
-unfolding some
-some-more p l i e f = rw add-one (ap₂ _||_ e f)
+pub someTo-more : (p : ℕ → ℕ → Bool) (l : List ℕ) (i : ℕ) {before here : Bool}
+    → before ≡ someTo p l i → here ≡ p i (getD l i 0) → (before || here) ≡ someTo p l (i + 1)
+unfolding someTo
+someTo-more p l i e f = rw add-one (ap₂ _||_ e f)
 
 -- where none has p, each fails it
-pub some-each : (p : ℕ → ℕ → Bool) (l : List ℕ) (k i : ℕ) → some p l k ≡ false → i < k → p i (getD l i 0) ≡ false
-unfolding some
-some-each p l zero i e h = absurd (omega arith)
-some-each p l (suc k) i e h =
-    let n = neither (some p l k) (p k (getD l k 0)) e in
+pub someTo-each : (p : ℕ → ℕ → Bool) (l : List ℕ) (k i : ℕ) → someTo p l k ≡ false → i < k → p i (getD l i 0) ≡ false
+unfolding someTo
+someTo-each p l zero i e h = absurd (omega arith)
+someTo-each p l (suc k) i e h =
+    let n = neither (someTo p l k) (p k (getD l k 0)) e in
     elim (decLt i k) [
-      | yes b ↦ some-each p l k i (n .0) b
+      | yes b ↦ someTo-each p l k i (n .0) b
       | no b ↦ let s : i ≡ k = omega arith in rw s (n .1)
     ]

@@ -6,7 +6,7 @@ use lib.Dec.{ltb, leb, eqb}
 use lib.ListN.{length}
 use Rattle.clock.specs.Limits.{maxAdvance, maxIncrement, maxRound}
 use Rattle.mask.specs.Mask.{has, below}
-use Rattle.clock.specs.Tests.{outside, some}
+use Rattle.clock.specs.Tests.{outside, someTo}
 use Rattle.event.specs.declared.Event.{Event}
 use Rattle.event.specs.declared.Event.the-variants.{Advance, Deliver, Send}
 
@@ -17,7 +17,7 @@ badIncrement faulty i x = ltb maxIncrement x || (has faulty i && not (eqb x 0))
 -- d outside 1 to 100,000,000; not n increments; an increment that is barred
 unfoldable pub badAdvance : ℕ → ℕ → ℕ → List ℕ → Bool
 badAdvance n faulty d increments =
-    outside 1 maxAdvance d || not (eqb (length increments) n) || some (badIncrement faulty) increments (length increments)
+    outside 1 maxAdvance d || not (eqb (length increments) n) || someTo (badIncrement faulty) increments (length increments)
 
 -- a station at n or above; sender equals recipient; faulty recipient; round outside 1 to 1,000,000
 unfoldable pub badEnds : ℕ → ℕ → ℕ → ℕ → ℕ → Bool

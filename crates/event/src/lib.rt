@@ -1,7 +1,7 @@
 // The three events of a run, and rule 11: which events are barred whatever the run's state is.
 ghost use mathlib.Core.Path.{_≡_};
 ghost use lib.ListN.{length};
-ghost use Rattle.clock.specs.Tests.{some};
+ghost use Rattle.clock.specs.Tests.{someTo};
 ghost use Rattle.event.specs.Event as rule;
 
 // An event. An advance's increments, one per station, are lent beside it.
@@ -33,7 +33,7 @@ fn bad_increment(faulty: u64, i: u64, x: u64) -> bool
 
 // Whether one of the increments is barred.
 fn some_bad_increment(faulty: u64, increments: &[u64]) -> bool
-    ensures { λ r. ⌜ r ≡ some (rule.badIncrement faulty) (now (increments .entry)) (length (now (increments .entry))) ⌝ }
+    ensures { λ r. ⌜ r ≡ someTo (rule.badIncrement faulty) (now (increments .entry)) (length (now (increments .entry))) ⌝ }
 {
     let mut bad = false;
     let mut i = 0;

@@ -12,7 +12,7 @@ use borrow.Author.Tests.{ltb-true, ltb-false, leb-false, eqb-true, eqb-false, no
 use Rattle.clock.specs.Limits.{maxTime, maxRound, maxReading, maxFlight, maxAdvance, maxIncrement}
 use Rattle.clock.specs.Drift.{keeps}
 use Rattle.clock.specs.Pick.{refuse-none}
-use Rattle.clock.specs.Tests.{outside, some, neither, inside, some-each}
+use Rattle.clock.specs.Tests.{outside, someTo, neither, inside, someTo-each}
 use Rattle.mask.specs.Mask.{has, below}
 use Rattle.setup.specs.declared.Plan.{Plan}
 use Rattle.station.specs.declared.Station.{Station}
@@ -71,7 +71,7 @@ pub record Delivers (r : Run) (sender recipient round kind : ℕ) (increments : 
 pub record FaultySends (r : Run) (sender recipient round signers : ℕ) (increments : List ℕ) : Type 0 where
   -- 11
   pub ends : Ends (r .plan) sender recipient round
-  pub some : signers ≡ 0 → ⊥
+  pub nonempty : signers ≡ 0 → ⊥
   pub below : signers < 2 ^ r .plan .stations
   -- 17
   pub faulty : has (r .plan .faulty) sender ≡ true
@@ -138,12 +138,12 @@ module _ (r : Run) (increments : List ℕ) where
       let nineteen = refuse-none (full (effect r (Advance d) increments)) 18 _ (fifteen .1) in
       let a =
       neither (outside 1 maxAdvance d || not (eqb (length increments) (r .plan .stations)))
-      (some (badIncrement (r .plan .faulty)) increments (length increments)) (eleven .0) in
+      (someTo (badIncrement (r .plan .faulty)) increments (length increments)) (eleven .0) in
       let b = neither (outside 1 maxAdvance d) (not (eqb (length increments) (r .plan .stations))) (a .0) in
       let long : length increments ≡ r .plan .stations = eqb-true _ _ (not-false _ (b .1)) in
       let t = neither (ltb maxTime (r .time + d)) (someStation (exceedsAt r increments) (r .plan .stations)) (twelve .0) in
       let allowed : (i : ℕ) → i < r .plan .stations → badIncrement (r .plan .faulty) i (getD increments i 0) ≡ false =
-      λ i h. some-each (badIncrement (r .plan .faulty)) increments (length increments) i (a .1) (omega (arith, long)) in
+      λ i h. someTo-each (badIncrement (r .plan .faulty)) increments (length increments) i (a .1) (omega (arith, long)) in
       let within : (i : ℕ) → i < r .plan .stations → exceeds (r .plan) (getD increments i 0) (stationAt r i) ≡ false =
       λ i h. none-station (exceedsAt r increments) (r .plan .stations) i (t .1) h in
       record {
@@ -198,7 +198,7 @@ module _ (r : Run) (increments : List ℕ) where
       let b = neither (badEnds (r .plan .stations) (r .plan .faulty) sender recipient round) (eqb signers 0) (a .0) in
       record {
         ends = ends-is (r .plan) sender recipient round (b .0);
-        some = eqb-false _ _ (b .1);
+        nonempty = eqb-false _ _ (b .1);
         below = ltb-true _ _ (not-false _ (a .1));
         faulty = not-false _ (seventeen .0);
         signed = λ w i h u. eqb-true _ _

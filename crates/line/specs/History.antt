@@ -27,7 +27,7 @@ use Rattle.event.specs.declared.Event.the-variants.{Advance, Deliver, Send}
 use Rattle.line.specs.Run.{Run, stationAt, fresh, others, readyOf, relayOf, sends, landsAt}
 use Rattle.line.specs.Record.{badRecord}
 use Rattle.line.specs.Event.{namesOf, eventAnswer, step}
-use Rattle.line.specs.Valid.{Ruled, Between, none, fresh-valid}
+use Rattle.line.specs.Valid.{Ruled, Between, nobody, fresh-valid}
 use Rattle.line.specs.Allowed.{Advances, accepted, advances}
 use Rattle.line.specs.ValidSteps.{landed-sound, step-valid}
 use Rattle.line.specs.Moves.{settle-either, hear-either, advance-either, lands-is, step-refused, heard, heardSends, messageNamed, advanceAt, advanceSends}
@@ -209,7 +209,7 @@ advance-tells plan i by s new =
 
 -- ---- each event keeps the count
 
-module _ (r : Run) (d : ℕ) (increments : List ℕ) (v : Between none r) (a : Advances r d increments) where
+module _ (r : Run) (d : ℕ) (increments : List ℕ) (v : Between nobody r) (a : Advances r d increments) where
   -- a station that lands on a mark has not signed its round
   lands-new : (i : ℕ) → i < r .plan .stations → lands (r .plan) (getD increments i 0) (stationAt r i) ≡ true
       → stationAt r i .signed ≡ waits (stationAt r i) → ⊥
@@ -257,10 +257,10 @@ count-heard r after recipient round signers h here rest =
     length-sends (r .plan) (r .time) recipient _ (stationAt r recipient) (heard r recipient round signers)
     (hear-tells (r .plan) round signers (stationAt r recipient))
     ∙ ap (sentFrom (r .plan) recipient (stationAt r recipient)) (sym here)
-    ∙ sym (sum-one (r .plan .stations) (sentAt r after) recipient h none)
+    ∙ sym (sum-one (r .plan .stations) (sentAt r after) recipient h others-none)
   where
-    none : (i : ℕ) → (i ≡ recipient → ⊥) → sentAt r after i ≡ 0
-    none i ne = rw (rest i ne, told-none (stationAt r i)) (omega arith)
+    others-none : (i : ℕ) → (i ≡ recipient → ⊥) → sentAt r after i ≡ 0
+    others-none i ne = rw (rest i ne, told-none (stationAt r i)) (omega arith)
 
 -- an accepted deliver takes one message and adds what its recipient sent
 count-deliver : (r : Run) (sender recipient round kind : ℕ) (increments : List ℕ)

@@ -3,7 +3,7 @@ use Prim.Native.Nat.{ℕ}
 use mathlib.Core.List.{List, [], _∷_}
 use mathlib.Core.Path.{_≡_, refl}
 use Rattle.clock.specs.Drift.{keeps}
-use Rattle.clock.specs.Tests.{some}
+use Rattle.clock.specs.Tests.{someTo}
 use Rattle.mask.specs.Mask.{has, countTo, count, below, join, only, all, minus}
 use Rattle.setup.specs.declared.Plan.{Plan}
 use Rattle.setup.specs.Setup.{badStations, badFaults, badLimits, badMarks, gap, steps, spreads, planAnswer, badFirst, firstAnswer, setupAnswer}
@@ -68,16 +68,16 @@ line answer time a b = record { answer = answer; time = time; rounds = a ∷ b �
 
 -- the setup is answered 0
 pub setup-line : setupAnswer plan first ≡ 0
-unfolding has countTo count below badStations badFaults badLimits badMarks gap steps spreads planAnswer badFirst some firstAnswer setupAnswer
+unfolding has countTo count below badStations badFaults badLimits badMarks gap steps spreads planAnswer badFirst someTo firstAnswer setupAnswer
 setup-line = refl
 
 -- and the events as the document prints them; station 2 is faulty, and its round is not shown there
 pub event-lines : play (fresh plan first) script
     ≡ line 0 2 0 0 ∷ line 14 2 0 0 ∷ line 18 2 0 0 ∷ line 0 2 0 1 ∷ line 0 2 1 1 ∷ line 15 2 1 1 ∷ line 0 2 1 1 ∷ line 0 3 1 1 ∷ []
-unfolding keeps some has countTo count below join only all minus badStations badFaults badLimits badMarks gap steps spreads planAnswer still complete start settle gather hear sign move lands passes advance badNumbers badSigned badGathered badStation exceeds named messageOf indexOf without sentTo someOf late twins badIncrement badAdvance badEnds barred sound freshStations fresh others sends become signAt hearAt movedAll moves landsAt signTo badFaulty badStationAt badContent badWay badRound badMessage badRecord takeOut effect someStation exceedsAt driftsAt passesAt unsignedAt unsigned full eventRules stepAnswer eventAnswer step
+unfolding keeps someTo has countTo count below join only all minus badStations badFaults badLimits badMarks gap steps spreads planAnswer still complete start settle gather hear sign move lands passes advance badNumbers badSigned badGathered badStation exceeds named messageOf indexOf without sentTo someOf late twins badIncrement badAdvance badEnds barred sound freshStations fresh others sends become signAt hearAt movedAll moves landsAt signTo badFaulty badStationAt badContent badWay badRound badMessage badRecord takeOut effect someStation exceedsAt driftsAt passesAt unsignedAt unsigned full eventRules stepAnswer eventAnswer step
 event-lines = refl
 
 -- counted from its history, three messages were sent and two delivered
 pub rehearsal-count : (sentIn (fresh plan first) script ≡ 3) × (deliveredIn (fresh plan first) script ≡ 2)
-unfolding keeps some has countTo count below join only all minus badStations badFaults badLimits badMarks gap steps spreads planAnswer still complete start settle gather hear sign move lands passes advance badNumbers badSigned badGathered badStation exceeds named messageOf indexOf without sentTo someOf late twins badIncrement badAdvance badEnds barred sound freshStations fresh others sends become signAt hearAt movedAll moves landsAt signTo badFaulty badStationAt badContent badWay badRound badMessage badRecord takeOut effect someStation exceedsAt driftsAt passesAt unsignedAt unsigned full eventRules stepAnswer eventAnswer step told sumTo sentBy taken deliveredBy sentIn deliveredIn
+unfolding keeps someTo has countTo count below join only all minus badStations badFaults badLimits badMarks gap steps spreads planAnswer still complete start settle gather hear sign move lands passes advance badNumbers badSigned badGathered badStation exceeds named messageOf indexOf without sentTo someOf late twins badIncrement badAdvance badEnds barred sound freshStations fresh others sends become signAt hearAt movedAll moves landsAt signTo badFaulty badStationAt badContent badWay badRound badMessage badRecord takeOut effect someStation exceedsAt driftsAt passesAt unsignedAt unsigned full eventRules stepAnswer eventAnswer step told sumTo sentBy taken deliveredBy sentIn deliveredIn
 rehearsal-count = (refl, refl)

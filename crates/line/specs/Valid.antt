@@ -13,7 +13,7 @@ use lib.Pow.{pow-pos}
 use borrow.Author.Tests.{ltb-true, ltb-false, eqb-true, eqb-false, not-true, not-false, lt-ltb, le-ltb, le-leb, lt-leb, eq-eqb, ne-eqb}
 use Rattle.clock.specs.Limits.{maxTime, maxRound, maxReading, maxFlight}
 use Rattle.clock.specs.Pick.{pick}
-use Rattle.clock.specs.Tests.{outside, both, neither, inside, not-outside, some-each}
+use Rattle.clock.specs.Tests.{outside, both, neither, inside, not-outside, someTo-each}
 use Rattle.mask.specs.Mask.{has, count, below}
 use Rattle.mask.specs.Laws.{count-none}
 use Rattle.setup.specs.declared.Plan.{Plan}
@@ -81,12 +81,12 @@ pub record Between (due : ℕ → Bool) (r : Run) : Type 0 where
   pub single : twins (r .flight) ≡ false
 
 -- no station is yet to sign
-abbrev pub none : ℕ → Bool
-none i = false
+abbrev pub nobody : ℕ → Bool
+nobody i = false
 
 -- a valid record: it keeps its rules, and at most 1,024 messages are in flight
 pub record Valid (r : Run) : Type 0 where
-  pub rules : Between none r
+  pub rules : Between nobody r
   pub few : length (r .flight) ≤ maxFlight
 
 -- ---- from tests to facts and back
@@ -316,7 +316,7 @@ fresh-valid plan first e =
     let a = accepted plan first e in
     let p = planned plan (a .0) in
     let each : (i : ℕ) → i < plan .stations → badFirst plan i (getD first i 0) ≡ false =
-    λ i h. some-each (badFirst plan) first (plan .stations) i (a .2) h in
+    λ i h. someTo-each (badFirst plan) first (plan .stations) i (a .2) h in
     is-valid (fresh plan first)
     (record {
       rules = record {

@@ -32,7 +32,7 @@ use Rattle.event.specs.declared.Event.the-variants.{Advance, Deliver, Send}
 use Rattle.line.specs.Run.{Run, sound, noStation, stationAt, others, readyOf, relayOf, sends, become, signAt, hearAt, movedAll, moves, landsAt, signTo}
 use Rattle.line.specs.Record.{badRecord}
 use Rattle.line.specs.Event.{takeOut, deliverAt, effect, stepAnswer, eventAnswer, step}
-use Rattle.line.specs.Valid.{Sound, Ruled, Due, OnItsWay, Between, none, Valid, sound-is, is-valid}
+use Rattle.line.specs.Valid.{Sound, Ruled, Due, OnItsWay, Between, nobody, Valid, sound-is, is-valid}
 use Rattle.line.specs.Allowed.{Advances, second-fails, accepted, advances, delivers, faulty-sends}
 use Rattle.line.specs.Moves.{settle-either, hear-either, lands-is, others-are, all-sends, moved-at, moved-length, signed-to}
 
@@ -320,15 +320,15 @@ module _ (due left : ℕ → Bool) (r : Run) (v : Between due r) (i : ℕ) (h : 
 -- ---- hearing
 
 -- a sound station's hearing keeps the rules
-pub hear-between : (r : Run) → Between none r → (i round signers : ℕ) → Sound (r .plan) i → round ≤ maxRound
-    → signers < 2 ^ r .plan .stations → Between none (hearAt i round signers r)
+pub hear-between : (r : Run) → Between nobody r → (i round signers : ℕ) → Sound (r .plan) i → round ≤ maxRound
+    → signers < 2 ^ r .plan .stations → Between nobody (hearAt i round signers r)
 unfolding hearAt
 hear-between r v i round signers h l g =
-    become-between none none r v i h (hear (r .plan) round signers (stationAt r i))
+    become-between nobody nobody r v i h (hear (r .plan) round signers (stationAt r i))
     (hear-does (r .plan) (v .plan) (stationAt r i) round signers (v .stations i h) l g) refl (λ j n. refl)
 
 -- so does a message's leaving the flight
-pub out-between : (r : Run) → Between none r → (i : ℕ) → i < length (r .flight) → Between none (takeOut i r)
+pub out-between : (r : Run) → Between nobody r → (i : ℕ) → i < length (r .flight) → Between nobody (takeOut i r)
 unfolding takeOut
 out-between r v i h = record {
   answer = v .answer;
@@ -342,8 +342,8 @@ out-between r v i h = record {
 }
 
 -- and a delivery
-pub deliver-between : (r : Run) → Between none r → (i recipient round : ℕ) → i < length (r .flight) → Sound (r .plan) recipient
-    → round ≤ maxRound → Between none (deliverAt i recipient round r)
+pub deliver-between : (r : Run) → Between nobody r → (i recipient round : ℕ) → i < length (r .flight) → Sound (r .plan) recipient
+    → round ≤ maxRound → Between nobody (deliverAt i recipient round r)
 unfolding takeOut
 deliver-between r v i recipient round h s l =
     hear-between (takeOut i r) (out-between r v i h) recipient round (getD (r .flight) i noMessage .signers) s l
@@ -397,7 +397,7 @@ move-rules plan by s h most last mark = go (lands plan by s) refl
       }
     ]
 
-module _ (r : Run) (d : ℕ) (increments : List ℕ) (v : Between none r) (a : Advances r d increments) where
+module _ (r : Run) (d : ℕ) (increments : List ℕ) (v : Between nobody r) (a : Advances r d increments) where
   -- after the move those that landed are yet to sign
   pub moves-between : Between (landsAt r increments) (moves d increments r)
   unfolding moves landsAt move
@@ -466,7 +466,7 @@ landed-here : (r : Run) (increments : List ℕ) (k i : ℕ) → k ≤ i → land
 unfolding landedFrom
 landed-here r increments k i h = let e = le-leb k i h in rw e refl
 
-module _ (r : Run) (d : ℕ) (increments : List ℕ) (v : Between none r) (a : Advances r d increments) where
+module _ (r : Run) (d : ℕ) (increments : List ℕ) (v : Between nobody r) (a : Advances r d increments) where
   -- no faulty station lands: its reading and its increment are zero, and its mark is not
   pub landed-sound : (k : ℕ) → k < r .plan .stations → landsAt r increments k ≡ true → has (r .plan .faulty) k ≡ false
   unfolding landsAt
@@ -516,10 +516,10 @@ module _ (r : Run) (d : ℕ) (increments : List ℕ) (v : Between none r) (a : A
           each i false q = landed-other r increments k i (eqb-false i k q)
 
   -- after all turns none is
-  pub advance-between : Between none (signTo (r .plan .stations) r increments (moves d increments r))
+  pub advance-between : Between nobody (signTo (r .plan .stations) r increments (moves d increments r))
   advance-between =
       let p = turns-plan (r .plan .stations) (omega arith) in
-      between-same (landedFrom r increments (r .plan .stations)) none (signTo (r .plan .stations) r increments (moves d increments r))
+      between-same (landedFrom r increments (r .plan .stations)) nobody (signTo (r .plan .stations) r increments (moves d increments r))
       (signs-between (r .plan .stations) (omega arith))
       (λ i h. sym (landed-before r increments (r .plan .stations) i (omega (arith, h, ap (λ (x : Plan). x .stations) p))))
 

@@ -8,7 +8,7 @@ use lib.ListN.{length}
 use borrow.Author.Tests.{ltb-true, ltb-false, leb-true, eqb-true, not-false}
 use Rattle.clock.specs.Limits.{parts, maxStations, maxDrift, maxBound, maxSpread, maxStep, maxPeriod}
 use Rattle.clock.specs.Drift.{rate}
-use Rattle.clock.specs.Tests.{some, both, neither, inside}
+use Rattle.clock.specs.Tests.{someTo, both, neither, inside}
 use Rattle.clock.specs.Pick.{refuse-none, orElse-none}
 use Rattle.mask.specs.Mask.{count, below}
 use Rattle.setup.specs.declared.Plan.{Plan}
@@ -75,10 +75,10 @@ planned s e =
 
 -- an accepted setup has an accepted plan, n first readings, and none that breaks its rule
 pub accepted : (s : Plan) (first : List ℕ) → setupAnswer s first ≡ 0
-    → (planAnswer s ≡ 0) × (length first ≡ s .stations) × (some (badFirst s) first (s .stations) ≡ false)
+    → (planAnswer s ≡ 0) × (length first ≡ s .stations) × (someTo (badFirst s) first (s .stations) ≡ false)
 unfolding setupAnswer firstAnswer
 accepted s first e =
     let a = orElse-none (planAnswer s) _ e in
     let b = refuse-none _ 7 0 (a .1) in
-    let c = neither (not (eqb (length first) (s .stations))) (some (badFirst s) first (s .stations)) (b .0) in
+    let c = neither (not (eqb (length first) (s .stations))) (someTo (badFirst s) first (s .stations)) (b .0) in
     (a .0, eqb-true _ _ (not-false _ (c .0)), c .1)

@@ -6,7 +6,7 @@ use lib.Dec.{ltb, leb, eqb}
 use lib.ListN.{length}
 use Rattle.clock.specs.Limits.{maxStations, maxDrift, maxBound, maxSpread, maxStep, maxPeriod, parts}
 use Rattle.clock.specs.Drift.{rate}
-use Rattle.clock.specs.Tests.{outside, some}
+use Rattle.clock.specs.Tests.{outside, someTo}
 use Rattle.clock.specs.Pick.{pick, refuse, orElse}
 use Rattle.mask.specs.Mask.{has, count, below}
 use Rattle.setup.specs.declared.Plan.{Plan}
@@ -69,7 +69,7 @@ badFirst s i x = pick (has (s .faulty) i) (not (eqb x 0)) (outside (s .step) (s 
 
 -- 8: not n first readings, or one that breaks its rule
 unfoldable pub firstAnswer : Plan → List ℕ → ℕ
-firstAnswer s first = refuse (not (eqb (length first) (s .stations)) || some (badFirst s) first (s .stations)) 8 0
+firstAnswer s first = refuse (not (eqb (length first) (s .stations)) || someTo (badFirst s) first (s .stations)) 8 0
 
 -- the answer to a setup: its plan's, then its first readings'
 unfoldable pub setupAnswer : Plan → List ℕ → ℕ

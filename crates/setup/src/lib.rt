@@ -2,7 +2,7 @@
 // refused, the checks in exactly that order. Any numbers and any number of first readings are answered.
 ghost use mathlib.Core.Path.{_≡_};
 ghost use lib.ListN.{length};
-ghost use Rattle.clock.specs.Tests.{some};
+ghost use Rattle.clock.specs.Tests.{someTo};
 ghost use Rattle.setup.specs.Setup as rule;
 ghost use Rattle.setup.specs.Laws.{InLimits};
 
@@ -121,7 +121,7 @@ fn bad_first(plan: Plan, i: u64, x: u64) -> bool
 // Whether one of the first readings breaks its rule.
 fn some_bad_first(plan: Plan, first: &[u64]) -> bool
     requires { ⌜ InLimits plan ⌝ }
-    ensures { λ r. ⌜ r ≡ some (rule.badFirst plan) (now (first .entry)) (length (now (first .entry))) ⌝ }
+    ensures { λ r. ⌜ r ≡ someTo (rule.badFirst plan) (now (first .entry)) (length (now (first .entry))) ⌝ }
 {
     let mut bad = false;
     let mut i = 0;

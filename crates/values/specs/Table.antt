@@ -7,7 +7,7 @@ use Rattle.number.specs.declared.Number.the-variants.{Refused}
 use Rattle.number.specs.Number.{ends, numberFrom, readNumber}
 use Rattle.setup.specs.declared.Plan.{Plan}
 use Rattle.setup.specs.Setup.{badStations, badFaults, badLimits, badMarks, gap, steps, spreads, planAnswer, badFirst, firstAnswer, setupAnswer}
-use Rattle.clock.specs.Tests.{some}
+use Rattle.clock.specs.Tests.{someTo}
 use Rattle.mask.specs.Mask.{has, countTo, count, below, join, only, all, minus}
 use Rattle.clock.specs.Drift.{keeps}
 use Rattle.station.specs.Station.{still, complete, start, settle, gather, hear, sign, move, lands, passes, advance}
@@ -60,7 +60,7 @@ pub record Values : Type 0 where
   pub fast-refused : advanced 10_002 ≡ 13
 
 pub values : Values
-unfolding readNumber numberFrom ends setupAnswer firstAnswer some badFirst planAnswer badStations badFaults badLimits badMarks gap steps spreads has countTo count below keeps join only all minus still complete start settle gather hear sign move lands passes advance badNumbers badSigned badGathered badStation exceeds named messageOf indexOf without sentTo someOf late twins badIncrement badAdvance badEnds barred sound freshStations fresh others sends become signAt hearAt movedAll moves landsAt signTo badFaulty badStationAt badContent badWay badRound badMessage badRecord takeOut effect someStation exceedsAt driftsAt passesAt unsignedAt unsigned full eventRules stepAnswer eventAnswer step told sumTo sentBy taken deliveredBy sentIn deliveredIn
+unfolding readNumber numberFrom ends setupAnswer firstAnswer someTo badFirst planAnswer badStations badFaults badLimits badMarks gap steps spreads has countTo count below keeps join only all minus still complete start settle gather hear sign move lands passes advance badNumbers badSigned badGathered badStation exceeds named messageOf indexOf without sentTo someOf late twins badIncrement badAdvance badEnds barred sound freshStations fresh others sends become signAt hearAt movedAll moves landsAt signTo badFaulty badStationAt badContent badWay badRound badMessage badRecord takeOut effect someStation exceedsAt driftsAt passesAt unsignedAt unsigned full eventRules stepAnswer eventAnswer step told sumTo sentBy taken deliveredBy sentIn deliveredIn
 values = record {
   base = refl;
   spread = refl;

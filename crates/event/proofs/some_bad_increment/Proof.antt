@@ -4,20 +4,20 @@ use Prim.Native.Nat.{_-_, _≤_}
 use mathlib.Core.Path.{_≡_, sym, ap, _∙_}
 use lib.ListN.{length}
 use denote.Ref.{now}
-use Rattle.clock.specs.Tests.{some, some-none, some-more}
+use Rattle.clock.specs.Tests.{someTo, someTo-none, someTo-more}
 use Rattle.event.specs.Event.{badIncrement}
 use native.Mathlib.Omega.{arith}
 use Rattle.event.proofs.some_bad_increment.Statement.{statement}
 use Rattle.event.proofs.some_bad_increment.Tie as tie
 
 abbrev Inv-loop : tie.InvT-loop
-Inv-loop faulty increments bad₀ i₀ bad i = (i ≤ length increments) × (bad ≡ some (badIncrement faulty) increments i)
+Inv-loop faulty increments bad₀ i₀ bad i = (i ≤ length increments) × (bad ≡ someTo (badIncrement faulty) increments i)
 
 abbrev μ-loop : tie.MeasureT-loop
 μ-loop faulty increments bad₀ i₀ bad i = length increments - i
 
 loop-holds : tie.Need-loop-holds Inv-loop μ-loop
-loop-holds c = (omega arith, sym (some-none _ _))
+loop-holds c = (omega arith, sym (someTo-none _ _))
 
 mul-bad-increment : tie.Need-mul-bad-increment Inv-loop μ-loop
 mul-bad-increment c = omega arith
@@ -35,11 +35,11 @@ loop-less : tie.Need-loop-less Inv-loop μ-loop
 loop-less c = omega arith
 
 loop-again : tie.Need-loop-again Inv-loop μ-loop
-loop-again c = (omega arith, some-more _ _ _ (c .before .before .before .loop .inv .1) (c .bad-increment .ensures))
+loop-again c = (omega arith, someTo-more _ _ _ (c .before .before .before .loop .inv .1) (c .bad-increment .ensures))
 
 returns : tie.Need-returns Inv-loop μ-loop
 returns c = let e : c .before .loop .i ≡ length (now (c .before .before .before .args .increments)) = omega arith in
-    c .before .loop .inv .1 ∙ ap (some _ _) e
+    c .before .loop .inv .1 ∙ ap (someTo _ _) e
 
 pub some-bad-increment-spec : {M : Type 1} → statement M
 some-bad-increment-spec =

@@ -7,7 +7,7 @@ use mathlib.Core.Path.{_≡_, sym, _∙_, ap}
 use borrow.Author.Tests.{eq-eqb, ne-eqb}
 use lib.ListN.{length}
 use Rattle.clock.specs.Pick.{refuse, orElse-first, orElse-rest}
-use Rattle.clock.specs.Tests.{some}
+use Rattle.clock.specs.Tests.{someTo}
 use Rattle.setup.specs.declared.Plan.{Plan}
 use Rattle.setup.specs.Setup.{planAnswer, badFirst, firstAnswer, setupAnswer}
 use Rattle.setup.specs.Laws.{planned}
@@ -21,11 +21,11 @@ unfolding setupAnswer firstAnswer
 others s l e ne = orElse-rest _ _ e ∙ simp (ne-eqb _ _ ne)
 
 -- n first readings, some of which break their rule or none does
-same : (s : Plan) (l : List ℕ) (b : Bool) → planAnswer s ≡ 0 → length l ≡ s .stations → some (badFirst s) l
+same : (s : Plan) (l : List ℕ) (b : Bool) → planAnswer s ≡ 0 → length l ≡ s .stations → someTo (badFirst s) l
     (length l) ≡ b → setupAnswer s l ≡ refuse b 8 0
 unfolding setupAnswer firstAnswer
 same s l b e n h =
-    orElse-rest _ _ e ∙ simp (eq-eqb _ _ n) (ap (λ (x : Bool). refuse x 8 0) (ap (some (badFirst s) l) (sym n) ∙ h))
+    orElse-rest _ _ e ∙ simp (eq-eqb _ _ n) (ap (λ (x : Bool). refuse x 8 0) (ap (someTo (badFirst s) l) (sym n) ∙ h))
 
 plan-answer-requires : tie.Need-plan-answer-requires
 plan-answer-requires c κs = search needs
