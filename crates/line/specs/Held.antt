@@ -2,9 +2,10 @@
 use Prim.Native.Nat.{ℕ, zero, suc, _*_}
 use mathlib.Core.Bool.{Bool, _||_, not}
 use mathlib.Core.List.{List, [], _∷_, _++_}
-use lib.Dec.{eqb}
+use lib.Dec.{leb, eqb}
 use lib.ListN.{length, getD}
-use Rattle.clock.specs.Limits.{maxFlight}
+use Rattle.clock.specs.Limits.{maxStations, maxFlight}
+use Rattle.clock.specs.Pick.{pick}
 use Rattle.station.specs.declared.Station.{Station}
 use Rattle.flight.specs.Message.{decode}
 use Rattle.line.specs.declared.Line.{Line}
@@ -19,6 +20,10 @@ firstOf (suc k) table = firstOf k table ++ (getD table k noStation ∷ [])
 -- the one in place i of them
 abbrev pub placeOf : ℕ → List Station → ℕ → Station
 placeOf n table i = getD (firstOf n table) i noStation
+
+-- station i of any record: none where the line has more than twelve
+unfoldable pub stationOf : Line → ℕ → Station
+stationOf l i = pick (leb (l .plan .stations) maxStations) (placeOf (l .plan .stations) (l .stations) i) noStation
 
 -- the first n places of the table are the stations, and the first `count` messages of the words are in flight
 unfoldable pub runOf : Line → List ℕ → Run

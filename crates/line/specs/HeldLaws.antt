@@ -10,7 +10,7 @@ use lib.ListN.{length, getD, length-append, List·getD-append, List·getD-eq-def
 use lib.Seq.{getD-at}
 use Rattle.flight.specs.declared.Message.{Message}
 use lib.Dec.{ltb, eqb}
-use borrow.Author.Tests.{eq-eqb}
+use borrow.Author.Tests.{eq-eqb, le-leb}
 use Rattle.clock.specs.Limits.{maxTime, maxFlight}
 use Rattle.clock.specs.Tests.{neither}
 use Rattle.setup.specs.Setup.{planAnswer}
@@ -23,7 +23,7 @@ use Rattle.line.specs.declared.Line.{Line}
 use Rattle.line.specs.Run.{noStation}
 use Rattle.line.specs.Record.{badStationAt, someStation, badWay, badRound, badMessage, badRecord}
 use Rattle.line.specs.Valid.{valid-is}
-use Rattle.line.specs.Held.{firstOf, placeOf, runOf, badLine}
+use Rattle.line.specs.Held.{firstOf, placeOf, stationOf, runOf, badLine}
 
 -- there are n of them
 pub first-length : (n : ℕ) (table : List Station) → length (firstOf n table) ≡ n
@@ -47,16 +47,22 @@ place-some (suc k) table i h = elim (decLt i k) [
       rw s (sym (getD-at (firstOf k table) (getD table k noStation) [] noStation k (first-length k table)))
 ]
 
+-- of a line of at most twelve stations it is the one in its place
+pub station-of : (l : Line) (i : ℕ) → l .plan .stations ≤ 12 → stationOf l i ≡ placeOf (l .plan .stations) (l .stations) i
+unfolding stationOf
+station-of l i h = rw (le-leb (l .plan .stations) 12 h) refl
+
+-- none of the first 0 stations
+pub some-none : (p : ℕ → Bool) → someStation p 0 ≡ false
+unfolding someStation
+some-none p = refl
+
+-- one more asked
+pub some-more : (p : ℕ → Bool) (i : ℕ) {before here : Bool} → before ≡ someStation p i → here ≡ p i → (before || here) ≡ someStation p (i + 1)
+unfolding someStation
+some-more p i e f = rw add-one (ap₂ _||_ e f)
+
 module _ (l : Line) where
-  pub some-none : someStation (badStationAt (runOf l [])) 0 ≡ false
-  unfolding someStation
-  some-none = refl
-
-  pub some-more : (i : ℕ) {before here : Bool} → before ≡ someStation (badStationAt (runOf l [])) i → here ≡ badStationAt (runOf l []) i
-      → (before || here) ≡ someStation (badStationAt (runOf l [])) (i + 1)
-  unfolding someStation
-  some-more i e f = rw add-one (ap₂ _||_ e f)
-
   pub stations-any : (words : List ℕ) (k : ℕ) → someStation (badStationAt (runOf l words)) k ≡ someStation (badStationAt (runOf l [])) k
   unfolding someStation badStationAt runOf
   stations-any words zero = refl

@@ -13,6 +13,7 @@ ghost use Rattle.line.specs.Question as question;
 ghost use Rattle.line.specs.Fresh as begin;
 use clock::MAX_FLIGHT;
 use clock::MAX_ROUND;
+use clock::MAX_STATIONS;
 use clock::MAX_TIME;
 use clock::Moment;
 use clock::Reading;
@@ -128,8 +129,18 @@ fn station_at(l: Line, i: u64) -> Station
     stations[i as usize]
 }
 
+// A station of any record's run; one with nothing in it where the line has more than twelve.
+pub fn station(l: Line, i: u64) -> Station
+    ensures { λ r. ⌜ r ≡ held.stationOf l i ⌝ }
+{
+    if l.plan.stations > MAX_STATIONS {
+        return no_station();
+    }
+    station_at(l, i)
+}
+
 // Whether a station of the line is not marked faulty.
-fn sound(plan: Plan, i: u64) -> bool
+pub fn sound(plan: Plan, i: u64) -> bool
     ensures { λ r. ⌜ r ≡ run.sound plan i ⌝ }
 {
     (i < plan.stations) & !mask::has(plan.faulty, i)

@@ -29,7 +29,7 @@ loop-less : tie.Need-loop-less Inv-loop μ-loop
 loop-less c = omega arith
 
 loop-again : tie.Need-loop-again Inv-loop μ-loop
-loop-again c = (omega arith, some-more _ _ (c .before .before .before .loop .inv .1) (c .bad-station-at .ensures))
+loop-again c = (omega arith, some-more (badStationAt (runOf _ [])) _ (c .before .before .before .loop .inv .1) (c .bad-station-at .ensures))
 
 returns : tie.Need-returns Inv-loop μ-loop
 returns c = let s : c .before .before .loop .i ≡ c .before .before .before .args .l .plan .stations =

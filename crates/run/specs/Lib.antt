@@ -1,0 +1,6 @@
+-- The three events as the code plays them: what each comes to, the limits within which nothing wraps, and the laws.
+pub mod Play
+pub mod Limits
+pub mod Sends
+pub mod Hearing
+pub mod Advance
