@@ -44,7 +44,7 @@ begun plan first =
     (record { answer = 0; line = lineFor plan (plan .stations) (seatedTo first (plan .stations)) })
     (record { answer = setupAnswer plan first; line = lineFor noPlan 0 noStations })
 
-seated-length : (first : List ℕ) (k : ℕ) → length (seatedTo first k) ≡ 12
+pub seated-length : (first : List ℕ) (k : ℕ) → length (seatedTo first k) ≡ 12
 unfolding seatedTo
 seated-length first zero = refl
 seated-length first (suc k) = length-set (seatedTo first k) k (freshStation (getD first k 0)) ∙ seated-length first k

@@ -4,3 +4,4 @@ pub mod Limits
 pub mod Sends
 pub mod Hearing
 pub mod Advance
+pub mod Follows
