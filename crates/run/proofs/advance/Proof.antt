@@ -1,8 +1,10 @@
 -- `run::advance` comes to the advance's table and effect: 12, 13, 14, 15, then 19, else each station takes its turn and what it
 -- sends follows. Assumes nothing.
+use Prim.Native.Nat.{_+_, _<_, _≤_}
 use mathlib.Core.Path.{_≡_, refl, ap, _∙_}
 use native.Mathlib.Omega.{arith}
 use denote.Ref.{now}
+use Rattle.clock.specs.Limits.{maxFlight}
 use borrow.Author.Tests.{lt-ltb, le-ltb}
 use Rattle.run.specs.declared.Turns.{Turns}
 use Rattle.event.specs.declared.Event.the-variants.{Advance}
@@ -55,8 +57,9 @@ same-length-2 c = search needs
 
 returns-5 : tie.Need-returns-5
 returns-5 c =
+    let over : maxFlight < c .before .before .before .before .before .before .before .before .before .before .before .before .before .before .before .before .args .l .count + c .before .before .before .take-turns .result .sent = omega arith in
     comes-no _ _ _ _ 19 (advance-rules _ _ _ _ (c .before .before .before .before .before .before .before .before .before .before .before .before .before .before .before .before .pre .0) (c .before .before .before .before .before .before .before .before .before .before .before .before .before .before .before .before .pre .1) _ (c .before .before .before .before .before .before .before .before .before .before .before .before .before .after .ensures) _ _ _ (c .before .before .before .before .before .before .before .before .before .before .before .before .meets-some .ensures) (c .before .before .before .before .before .overdue .ensures) (ap (λ (t : Turns). t .sent) (c .before .before .before .take-turns .ensures))
-    ∙ rw (c .before .before .before .before .before .before .before .before .before .if1 .left, c .before .before .before .before .before .before .before .before .if2 .left, c .before .before .before .before .before .before .before .if3 .left, c .before .before .before .before .if4 .left, lt-ltb _ _ (c .if5 .taken)) refl) (λ z. omega arith)
+    ∙ rw (c .before .before .before .before .before .before .before .before .before .if1 .left, c .before .before .before .before .before .before .before .before .if2 .left, c .before .before .before .before .before .before .before .if3 .left, c .before .before .before .before .if4 .left, lt-ltb _ _ over) refl) (λ z. omega arith)
 
 tell-all-requires : tie.Need-tell-all-requires
 tell-all-requires c κs =
@@ -70,10 +73,11 @@ returns-6 : tie.Need-returns-6
 returns-6 c =
     let turns = c .before .before .before .before .before .before .before .before .take-turns .ensures in
     let sent = ap (λ (t : Turns). t .sent) turns in
+    let few : c .before .before .before .before .before .before .before .before .before .before .before .before .before .before .before .before .before .before .before .before .before .args .l .count + c .before .before .before .before .before .before .before .before .take-turns .result .sent ≤ maxFlight = omega arith in
     let a = c .before .before .before .before .before .before .before .before .before .before .before .before .before .before .before .before .before .before .before .before .before .args in
     let rules : eventRules (runOf (a .l) (now (a .words))) (Advance (a .d)) (now (a .increments)) ≡ 0 =
     advance-rules _ _ _ _ (c .before .before .before .before .before .before .before .before .before .before .before .before .before .before .before .before .before .before .before .before .before .pre .0) (c .before .before .before .before .before .before .before .before .before .before .before .before .before .before .before .before .before .before .before .before .before .pre .1) _ (c .before .before .before .before .before .before .before .before .before .before .before .before .before .before .before .before .before .before .after .ensures) _ _ _ (c .before .before .before .before .before .before .before .before .before .before .before .before .before .before .before .before .before .meets-some .ensures) (c .before .before .before .before .before .before .before .before .before .before .overdue .ensures) sent
-    ∙ rw (c .before .before .before .before .before .before .before .before .before .before .before .before .before .before .if1 .left, c .before .before .before .before .before .before .before .before .before .before .before .before .before .if2 .left, c .before .before .before .before .before .before .before .before .before .before .before .before .if3 .left, c .before .before .before .before .before .before .before .before .before .if4 .left, le-ltb _ _ (c .before .before .before .before .before .if5 .left)) refl in
+    ∙ rw (c .before .before .before .before .before .before .before .before .before .before .before .before .before .before .if1 .left, c .before .before .before .before .before .before .before .before .before .before .before .before .before .if2 .left, c .before .before .before .before .before .before .before .before .before .before .before .before .if3 .left, c .before .before .before .before .before .before .before .before .before .if4 .left, le-ltb _ _ few) refl in
     advance-comes _ _ _ _ (c .before .before .before .before .before .before .before .before .before .before .before .before .before .before .before .before .before .before .before .before .before .pre .0) (c .before .before .before .before .before .before .before .before .before .before .before .before .before .before .before .before .before .before .before .before .before .pre .1) _ (c .before .before .before .before .before .before .before .before .before .before .before .before .before .before .before .before .before .before .after .ensures) rules _ _ _ (ap (λ (t : Turns). t .stations) turns)
     (c .before .before .tell-all .ensures .0) (c .before .before .tell-all .ensures .1)
 
