@@ -554,3 +554,21 @@ step-valid r e increments v = go (eqb (eventAnswer r e increments) 0) refl
         let a = accepted r e increments (eqb-true _ _ z) in
         is-valid (effect r e increments) (effect-valid r e increments (a .0) (a .1))
     go false z = v
+
+-- an accepted event keeps the plan
+pub effect-plan : (r : Run) (e : Event) (increments : List ℕ) → Valid r → stepAnswer r e increments ≡ 0 → effect r e increments .plan ≡ r .plan
+unfolding effect hearAt become takeOut
+effect-plan r (Advance d) increments v z =
+    let a = advances r increments d z in
+    signed-to r d increments (omega (arith, a .long, v .rules .long)) (r .plan .stations) (omega (arith, v .rules .long)) .plan
+effect-plan r (Deliver sender recipient round kind) increments v z = refl
+effect-plan r (Send sender recipient round signers) increments v z = refl
+
+-- and so does every event
+pub step-plan : (r : Run) (e : Event) (increments : List ℕ) → step r e increments .plan ≡ r .plan
+unfolding step
+step-plan r e increments = go (eqb (eventAnswer r e increments) 0) refl
+  where
+    go : (b : Bool) → eqb (eventAnswer r e increments) 0 ≡ b → pick b (effect r e increments) r .plan ≡ r .plan
+    go true z = let a = accepted r e increments (eqb-true _ _ z) in effect-plan r e increments (a .0) (a .1)
+    go false z = refl

@@ -22,15 +22,12 @@ use Rattle.flight.specs.Message.{coded, Codable}
 use Rattle.flight.specs.Members.{All, all-map}
 use Rattle.flight.specs.Coding.{length-coded, decode-coded}
 use Rattle.event.specs.declared.Event.{Event}
-use Rattle.event.specs.declared.Event.the-variants.{Advance, Deliver, Send}
 use Rattle.line.specs.declared.Line.{Line}
-use Rattle.line.specs.Run.{Run, noStation, become, hearAt}
+use Rattle.line.specs.Run.{Run, noStation}
 use Rattle.line.specs.Record.{badRecord}
-use Rattle.line.specs.Event.{takeOut, effect, stepAnswer, eventAnswer, step}
+use Rattle.line.specs.Event.{effect, stepAnswer, eventAnswer, step}
 use Rattle.line.specs.Valid.{Valid, is-valid, fresh-valid}
-use Rattle.line.specs.Allowed.{advances}
-use Rattle.line.specs.ValidSteps.{effect-valid, step-valid}
-use Rattle.line.specs.Moves.{signed-to}
+use Rattle.line.specs.ValidSteps.{effect-valid, effect-plan, step-valid}
 use Rattle.line.specs.History.{Entry}
 use Rattle.line.specs.History.{played as playedRun}
 use Rattle.line.specs.Held.{firstOf, runOf, badLine}
@@ -98,15 +95,6 @@ holding-run l words r v p twelve =
     λ j. record { plan = sym p j; time = r .time; stations = seats j; flight = messages j }
 
 -- ---- one event
-
--- an accepted event keeps the plan
-effect-plan : (r : Run) (e : Event) (increments : List ℕ) → Valid r → stepAnswer r e increments ≡ 0 → effect r e increments .plan ≡ r .plan
-unfolding effect hearAt become takeOut
-effect-plan r (Advance d) increments v z =
-    let a = advances r increments d z in
-    signed-to r d increments (omega (arith, a .long, v .rules .long)) (r .plan .stations) (omega (arith, v .rules .long)) .plan
-effect-plan r (Deliver sender recipient round kind) increments v z = refl
-effect-plan r (Send sender recipient round signers) increments v z = refl
 
 -- a record whose table has n stations, whose words are for 1,024 messages and whose run is valid is not refused
 line-good : (l : Line) (words : List ℕ) → l .length ≡ l .plan .stations → length words ≡ 3 * maxFlight → badRecord (runOf l words) ≡ false
