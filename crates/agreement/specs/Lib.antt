@@ -11,3 +11,4 @@ pub mod Signatures
 pub mod Messages
 pub mod Broadcasts
 pub mod Theorem
+pub mod Example

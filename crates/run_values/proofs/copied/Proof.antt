@@ -1,0 +1,52 @@
+-- `run_values::copied` copies up to 3,073 words. Assumes nothing.
+use Prim.Native.Nat.{_≤_, _-_}
+use mathlib.Core.Path.{_≡_}
+use lib.ListN.{length}
+use borrow.Author.Needs.{needs}
+use Rattle.run_values.proofs.copied.Statement.{statement}
+use Rattle.run_values.proofs.copied.Tie as tie
+
+abbrev Inv-loop : tie.InvT-loop
+Inv-loop words copy₀ i₀ copy i = (i ≤ 3073) × (3073 ≡ length copy)
+
+abbrev μ-loop : tie.MeasureT-loop
+μ-loop words copy₀ i₀ copy i = 3073 - i
+
+loop-holds : tie.Need-loop-holds Inv-loop μ-loop
+loop-holds c = search needs
+
+word-requires : tie.Need-word-requires Inv-loop μ-loop
+word-requires c κs = search needs
+
+mul-copy : tie.Need-mul-copy Inv-loop μ-loop
+mul-copy c = search needs
+
+array-write-copy : tie.Need-array-write-copy Inv-loop μ-loop
+array-write-copy c = search needs
+
+add-i : tie.Need-add-i Inv-loop μ-loop
+add-i c = search needs
+
+loop-less : tie.Need-loop-less Inv-loop μ-loop
+loop-less c = search needs
+
+loop-again : tie.Need-loop-again Inv-loop μ-loop
+loop-again c = search needs
+
+returns : tie.Need-returns Inv-loop μ-loop
+returns c = search needs
+
+pub copied-spec : {M : Type 1} → statement M
+copied-spec =
+    tie.close
+    (tie.spec
+    Inv-loop
+    μ-loop
+    loop-holds
+    word-requires
+    mul-copy
+    array-write-copy
+    add-i
+    loop-less
+    loop-again
+    returns)
