@@ -7,13 +7,13 @@ use mathlib.Core.Bool.{Bool, true, false, _&&_, not}
 use lib.Dec.{ltb, leb, eqb}
 use borrow.Author.Tests.{leb-false}
 use Rattle.clock.specs.Pick.{pick}
-use lib.ListN.{length, getD, set, replicate, length-append}
+use lib.ListN.{length, getD, set, replicate, length-append, length-replicate}
 use lib.Seq.{set-at, append-snoc}
 use Rattle.number.specs.declared.Number.{Number}
 use Rattle.number.specs.declared.Number.the-variants.{Value, Refused}
 use Rattle.script.specs.declared.read.Numbers.{Numbers}
 use Rattle.number.specs.Number.{ends, numberFrom, readNumber}
-use Rattle.script.specs.Read.{onNumber, Many, many, stopped, andMany, readMany, padded, asNumbers, planOf, setup, noSetup, withFirst, withPlan, setupFrom, readSetup, unread, asSetup, Happening, event, noEvent, advanceFrom, noneRead, asEvent}
+use Rattle.script.specs.Read.{onNumber, Many, many, stopped, andMany, readMany, padded, asNumbers, planOf, Setup, setup, noSetup, withFirst, withPlan, setupFrom, readSetup, unread, asSetup, Happening, event, noEvent, advanceFrom, noneRead, asEvent}
 use Rattle.script.specs.declared.read.EventRead.{EventRead}
 use Rattle.event.specs.declared.Event.{Event}
 use Rattle.event.specs.declared.Event.the-variants.{Advance, Deliver, Send}
@@ -350,3 +350,18 @@ setup-inside s at = go (readNumber s at) refl
     go : (r : Number) → readNumber s at ≡ r → asSetup s (onNumber r (setupFrom s) noSetup) .next ≤ length s
     go (Value n next) f = first n next (number-inside s at n next f) (outside 1 maxStations n)
     go (Refused number) f = omega arith
+
+-- the twelve places of first readings and of increments are there, whatever was read
+padded-long : (vs : List ℕ) → 12 ≤ length (padded vs)
+unfolding padded
+padded-long vs = omega (arith, length-append vs (replicate (12 - length vs) 0), length-replicate {A = ℕ} (12 - length vs) 0)
+
+pub first-long : (s : List ℕ) (x : Setup) → 12 ≤ length (asSetup s x .first)
+unfolding asSetup unread
+first-long s (setup plan first next) = padded-long first
+first-long s (noSetup number) = omega arith
+
+pub increments-long : (s : List ℕ) (x : Happening) → 12 ≤ length (asEvent s x .increments)
+unfolding asEvent noneRead
+increments-long s (event e increments next) = padded-long increments
+increments-long s (noEvent number) = omega arith

@@ -1,0 +1,318 @@
+-- Laws of the lines: how long their parts are, and what one more digit in front makes of the buffer.
+use Prim.Native.Nat.{ℕ, zero, suc, _+_, _*_, _-_, _/_, _%_, _^_, _<_, _≤_}
+use mathlib.Core.Bool.{Bool, true, false}
+use mathlib.Core.List.{List, [], _∷_, _++_, append-assoc}
+use mathlib.Core.Path.{_≡_, refl, ap, sym, subst, _∙_}
+use native.Mathlib.Decide.{decLt}
+use native.Mathlib.Nat.{div-div-eq-div-mul, div-one, pow-suc}
+use native.Mathlib.Numerals.{add-one}
+use native.Mathlib.Omega.{arith}
+use lib.Dec.{ltb, eqb}
+use lib.ListN.{length, getD, set, take, drop, length-append, length-take, length-set}
+use lib.Seq.{take-suc}
+use borrow.Author.Tests.{lt-ltb, le-ltb, le-leb, lt-leb, eq-eqb, ne-eqb}
+use Rattle.clock.specs.Pick.{pick}
+use Rattle.number.specs.Number.{laid}
+use Rattle.number.specs.Laws.{laid-none, laid-on, length-laid}
+use Rattle.mask.specs.Mask.{has}
+use Rattle.line.specs.declared.Line.{Line}
+use Rattle.line.specs.Run.{Run, stationAt}
+use Rattle.text.specs.Text.{placesFrom, places, lastDigits, decimal, single, spaced, roundOf, roundsTo, eventLine, roomy, fits}
+
+-- as many digits as asked for
+pub length-digits : (k x : ℕ) → length (lastDigits k x) ≡ k
+unfolding lastDigits
+length-digits zero x = refl
+length-digits (suc k) x = ap suc (length-digits k x)
+
+pub length-decimal : (x : ℕ) → length (decimal x) ≡ places x
+unfolding decimal
+length-decimal x = length-digits (places x) x
+
+-- from 1 to 20
+pub places-most : (left x : ℕ) → (1 ≤ placesFrom left x) × (placesFrom left x ≤ left + 1)
+unfolding placesFrom
+places-most zero x = (omega arith, omega arith)
+places-most (suc left) x = elim (decLt x 10) [
+  | yes h ↦ rw (lt-ltb x 10 h) (omega arith, omega arith)
+  | no h ↦ rw (le-ltb x 10 (omega arith)) (omega (arith, places-most left (x / 10) .0), omega (arith, places-most left (x / 10) .1))
+]
+
+places-zero : (y : ℕ) → placesFrom 0 y ≡ 1
+unfolding placesFrom
+places-zero y = refl
+
+places-low : (left x : ℕ) → x < 10 → placesFrom (suc left) x ≡ 1
+unfolding placesFrom
+places-low left x h = rw (lt-ltb x 10 h) refl
+
+places-high : (left x : ℕ) → 10 ≤ x → placesFrom (suc left) x ≡ placesFrom left (x / 10) + 1
+unfolding placesFrom
+places-high left x h = rw (le-ltb x 10 h) refl
+
+-- ---- counting digits
+
+-- so many are counted of x, and this is left of it
+pub record Counted (x count rest : ℕ) : Type 0 where
+  pub some : (1 ≤ count) × (count ≤ 20)
+  pub below : rest < 10 ^ (20 - count)
+  pub same : places x ≡ pick (eqb rest 0) count (count + placesFrom (19 - count) rest)
+
+pub counted-start : (x : ℕ) → x < 2 ^ 64 → Counted x 1 (x / 10)
+unfolding places placesFrom
+counted-start x h = record { some = (omega arith, omega arith); below = omega arith; same = go }
+  where
+    go : pick (ltb x 10) 1 (placesFrom 18 (x / 10) + 1) ≡ pick (eqb (x / 10) 0) 1 (1 + placesFrom 18 (x / 10))
+    go = elim (decLt x 10) [
+      | yes b ↦ rw (lt-ltb x 10 b, eq-eqb (x / 10) 0 (omega arith)) refl
+      | no b ↦ rw (le-ltb x 10 (omega arith), ne-eqb (x / 10) 0 (λ e. omega arith)) (omega arith)
+    ]
+
+module _ (x count rest : ℕ) (c : Counted x count rest) (h : rest ≡ 0 → ⊥) where
+  -- there is a place for it
+  pub counted-room : count < 20
+  counted-room = elim (decLt count 20) [
+    | yes b ↦ b
+    | no b ↦
+        let e : 20 - count ≡ 0 = omega arith in
+        let f : rest < 10 ^ 0 = subst (λ k. rest < 10 ^ k) e (c .below) in
+        absurd (h (omega arith))
+  ]
+
+  pub counted-next : Counted x (count + 1) (rest / 10)
+  counted-next = go (19 - count) (omega (arith, counted-room))
+    where
+      go : (left : ℕ) → count + left ≡ 19 → Counted x (count + 1) (rest / 10)
+      go left e =
+          let a : 20 - count ≡ suc left = omega arith in
+          let b : 19 - count ≡ left = omega arith in
+          let low : rest < 10 ^ suc left = subst (λ k. rest < 10 ^ k) a (c .below) in
+          let d : 20 - (count + 1) ≡ left = omega arith in
+          let m : 19 - (count + 1) ≡ left - 1 = omega arith in
+          let less : rest / 10 < 10 ^ left = div-less left low in
+          record {
+            some = (omega arith, omega arith);
+            below = subst (λ k. rest / 10 < 10 ^ k) (sym d) less;
+            same = c .same ∙ rw (ne-eqb rest 0 h, b, m) (digits left less);
+          }
+        where
+          div-less : (k : ℕ) → rest < 10 ^ suc k → rest / 10 < 10 ^ k
+          div-less k l = omega (arith, pow-suc 10 k)
+
+          digits : (k : ℕ) → rest / 10 < 10 ^ k → count + placesFrom k rest ≡ pick (eqb (rest / 10) 0) (count + 1) (count + 1 + placesFrom (k - 1) (rest / 10))
+          digits zero l = rw (eq-eqb (rest / 10) 0 (omega arith)) (one-digit rest)
+            where
+              one-digit : (y : ℕ) → count + placesFrom 0 y ≡ count + 1
+              one-digit y = ap (λ (z : ℕ). count + z) (places-zero y)
+          digits (suc k) l = elim (decLt rest 10) [
+            | yes s ↦ rw (places-low k rest s, eq-eqb (rest / 10) 0 (omega arith)) refl
+            | no s ↦
+                let back : suc k - 1 ≡ k = omega arith in
+                rw (places-high k rest (omega arith), ne-eqb (rest / 10) 0 (λ z. omega arith), back) (omega arith)
+          ]
+
+-- ---- one digit in front
+
+set-seam : (p : List ℕ) (x : ℕ) (q : List ℕ) (at b : ℕ) → length p ≡ at → set (p ++ x ∷ q) at b ≡ p ++ b ∷ q
+set-seam [] x q at b e = rw (← e) refl
+set-seam (w ∷ p) x q zero b e = absurd (omega arith)
+set-seam (w ∷ p) x q (suc at) b e = ap (λ (t : List ℕ). w ∷ t) (set-seam p x q at b (omega arith))
+
+-- a byte just in front of those that lie
+pub laid-front : (out : List ℕ) (p : ℕ) (bytes : List ℕ) (b : ℕ) → p < length out → set (laid out (p + 1) bytes) p b ≡ laid out p (b ∷ bytes)
+unfolding laid
+laid-front out p bytes b h =
+    let e : p + 1 ≡ suc p = omega arith in
+    let len : length (take p out) ≡ p = length-take p out ∙ omega arith in
+    let d : p + length (b ∷ bytes) ≡ p + 1 + length bytes = omega arith in
+    let rest : List ℕ = drop (p + 1 + length bytes) out in
+    let apart : take p out ++ (getD out p 0 ∷ []) ++ bytes ++ rest ≡ take p out ++ (getD out p 0 ∷ (bytes ++ rest)) = simp append-assoc in
+    let joined : take p out ++ (b ∷ (bytes ++ rest)) ≡ take p out ++ (b ∷ bytes) ++ rest = simp append-assoc in
+    rw d
+    (ap (λ (t : List ℕ). set (t ++ bytes ++ rest) p b) (ap (λ (k : ℕ). take k out) e ∙ take-suc out p 0 h)
+    ∙ ap (λ (t : List ℕ). set t p b) apart
+    ∙ set-seam (take p out) (getD out p 0) (bytes ++ rest) p b len
+    ∙ joined)
+
+-- one byte alone
+pub laid-one : (out : List ℕ) (p b : ℕ) → p + 1 ≤ length out → set out p b ≡ laid out p (b ∷ [])
+laid-one out p b h = ap (λ (t : List ℕ). set t p b) (sym (laid-none out (p + 1))) ∙ laid-front out p [] b (omega arith)
+
+-- ---- spelling a number, the last digit first
+
+-- all but the first `left` of its digits lie behind their place, and this is left of it
+pub record Spelt (x : ℕ) (out₀ : List ℕ) (at count : ℕ) (out : List ℕ) (rest left : ℕ) : Type 0 where
+  pub most : left ≤ count
+  pub long : length out ≡ length out₀
+  pub number : rest ≡ x / 10 ^ (count - left)
+  pub same : out ≡ laid out₀ (at + left) (lastDigits (count - left) x)
+
+pub spelt-start : (x : ℕ) (out : List ℕ) (at count : ℕ) → Spelt x out at count out x count
+unfolding lastDigits
+spelt-start x out at count =
+    let z : count - count ≡ 0 = omega arith in
+    record {
+      most = omega arith;
+      long = refl;
+      number = rw z (sym (div-one x));
+      same = rw z (sym (laid-none out (at + count)));
+    }
+
+pub spelt-next : (x : ℕ) (out₀ : List ℕ) (at count : ℕ) (out : List ℕ) (rest left : ℕ) → at + count ≤ length out₀ → (left ≡ 0 → ⊥)
+    → Spelt x out₀ at count out rest left → Spelt x out₀ at count (set out (at + (left - 1)) (48 + rest % 10)) (rest / 10) (left - 1)
+unfolding lastDigits
+spelt-next x out₀ at count out rest left room ne s = go (left - 1) (count - left) (omega (arith, ne)) (omega (arith, s .most))
+  where
+    go : (l k : ℕ) → left ≡ suc l → count ≡ suc l + k → Spelt x out₀ at count (set out (at + (left - 1)) (48 + rest % 10)) (rest / 10) (left - 1)
+    go l k e f =
+        let a : left - 1 ≡ l = omega arith in
+        let b : count - left ≡ k = omega arith in
+        let d : count - l ≡ suc k = omega arith in
+        let g : at + left ≡ at + l + 1 = omega arith in
+        let n : rest ≡ x / 10 ^ k = s .number ∙ ap (λ (j : ℕ). x / 10 ^ j) b in
+        let o : out ≡ laid out₀ (at + l + 1) (lastDigits k x) = s .same ∙ rw (g, b) refl in
+        rw a (record {
+          most = omega arith;
+          long = length-set out (at + l) (48 + rest % 10) ∙ s .long;
+          number = rw (d, n) (div-div-eq-div-mul x (10 ^ k) 10 ∙ ap (λ (j : ℕ). x / j) (sym (pow-suc 10 k)));
+          same = rw (d, o, n) (laid-front out₀ (at + l) (lastDigits k x) (48 + x / 10 ^ k % 10) (omega arith));
+        })
+
+-- no digit is left
+pub spelt-end : {x : ℕ} {out₀ : List ℕ} {at count : ℕ} {out : List ℕ} {rest left : ℕ} → count ≡ places x → left ≡ 0
+    → Spelt x out₀ at count out rest left → out ≡ laid out₀ at (decimal x)
+unfolding decimal
+spelt-end {x} {out₀} {at} {count} {out} {rest} {left} c e s =
+    let a : at + left ≡ at = omega arith in
+    let b : count - left ≡ places x = omega arith in
+    s .same ∙ rw (a, b) refl
+
+pub places-few : (x : ℕ) → places x ≤ 20
+unfolding places
+places-few x = places-most 19 x .1
+
+-- ---- one part behind another
+
+-- what is laid behind what was laid is both laid
+pub laid-both : (out : List ℕ) (at : ℕ) (a b : List ℕ) {w v : List ℕ} {next : ℕ} → at + length a ≤ length out → w ≡ laid out at a → next ≡ at + length a
+    → v ≡ laid w next b → v ≡ laid out at (a ++ b)
+laid-both out at a b h e n f = f ∙ rw (e, n) (laid-on out at a h b)
+
+pub length-spaced : (x : ℕ) → length (spaced x) ≡ places x + 1
+unfolding spaced
+length-spaced x = omega (arith, length-decimal x)
+
+-- a round takes 21 bytes at most
+pub round-most : (r : Run) (i : ℕ) → length (roundOf r i) ≤ 21
+unfolding roundOf
+round-most r i = go (has (r .plan .faulty) i)
+  where
+    go : (b : Bool) → length (pick b (32 ∷ 45 ∷ []) (spaced (stationAt r i .round))) ≤ 21
+    go true = omega arith
+    go false = omega (arith, length-spaced (stationAt r i .round), places-few (stationAt r i .round))
+
+pub rounds-most : (r : Run) (k : ℕ) → length (roundsTo r k) ≤ 21 * k
+unfolding roundsTo
+rounds-most r zero = omega arith
+rounds-most r (suc k) = omega (arith, length-append (roundsTo r k) (roundOf r k), rounds-most r k, round-most r k)
+
+-- before the first round, and after one more
+pub rounds-start : (r : Run) (out : List ℕ) (at : ℕ) → (at ≡ at + length (roundsTo r 0)) × (out ≡ laid out at (roundsTo r 0))
+unfolding roundsTo
+rounds-start r out at = (omega arith, sym (laid-none out at))
+
+pub rounds-next : (r : Run) (out : List ℕ) (at i : ℕ) {w v : List ℕ} {next n : ℕ} → at + 21 * (i + 1) ≤ length out
+    → next ≡ at + length (roundsTo r i) → w ≡ laid out at (roundsTo r i) → n ≡ next + length (roundOf r i) → v ≡ laid w next (roundOf r i)
+    → (n ≡ at + length (roundsTo r (i + 1))) × (v ≡ laid out at (roundsTo r (i + 1))) × (length v ≡ length out)
+unfolding roundsTo
+rounds-next r out at i {w} {v} {next} {n} room e f g h =
+    let most = rounds-most r i in
+    let one = round-most r i in
+    let both : v ≡ laid out at (roundsTo r i ++ roundOf r i) = laid-both out at (roundsTo r i) (roundOf r i) (omega arith) f e h in
+    let len = length-append (roundsTo r i) (roundOf r i) in
+    rw (add-one i) (g ∙ omega (arith, e, len), both, ap length both ∙ length-laid out at (roundsTo r i ++ roundOf r i) (omega (arith, len)))
+
+-- behind what is laid there is room for k more, where there was room for it and k
+pub room-left : (out : List ℕ) (at : ℕ) (a : List ℕ) (k : ℕ) {w : List ℕ} {next : ℕ} → at + length a + k ≤ length out → w ≡ laid out at a
+    → next ≡ at + length a → next + k ≤ length w
+room-left out at a k h e n = omega (arith, ap length e, length-laid out at a (omega arith), n)
+
+one-length : (number : ℕ) → length (decimal number) ≤ 20
+one-length number = omega (arith, length-decimal number, places-few number)
+
+two-length : (number answer : ℕ) → length (decimal number ++ spaced answer) ≤ 41
+two-length number answer =
+    omega (arith, length-append (decimal number) (spaced answer), one-length number, length-spaced answer, places-few answer)
+
+three-length : (number answer time : ℕ) → length (decimal number ++ spaced answer ++ spaced time) ≤ 62
+three-length number answer time =
+    omega (arith, length-append (decimal number ++ spaced answer) (spaced time), two-length number answer, length-spaced time, places-few time)
+
+module _ (out : List ℕ) (at number answer : ℕ) (r : Run) (room : at + 320 ≤ length out) (few : r .plan .stations ≤ 12)
+    {w₁ : List ℕ} {n₁ : ℕ} (l₁ : n₁ ≡ at + places number) (e₁ : w₁ ≡ laid out at (decimal number)) where
+  pub after-number : (n₁ ≡ at + length (decimal number)) × (n₁ + 21 ≤ length w₁)
+  after-number =
+      let n : n₁ ≡ at + length (decimal number) = omega (arith, l₁, length-decimal number) in
+      (n, room-left out at (decimal number) 21 (omega (arith, one-length number)) e₁ n)
+
+  module _ {w₂ : List ℕ} {n₂ : ℕ} (l₂ : n₂ ≡ n₁ + (places answer + 1)) (e₂ : w₂ ≡ laid w₁ n₁ (spaced answer)) where
+    pub after-answer : (n₂ ≡ at + length (decimal number ++ spaced answer)) × (n₂ + 21 ≤ length w₂) × (w₂ ≡ laid out at (decimal number ++ spaced answer))
+    after-answer =
+        let n : n₂ ≡ at + length (decimal number ++ spaced answer) =
+        l₂ ∙ omega (arith, after-number .0, length-append (decimal number) (spaced answer), length-spaced answer) in
+        let w = laid-both out at (decimal number) (spaced answer) (omega (arith, one-length number)) e₁ (after-number .0) e₂ in
+        (n, room-left out at (decimal number ++ spaced answer) 21 (omega (arith, two-length number answer)) w n, w)
+
+    module _ {w₃ : List ℕ} {n₃ : ℕ} (l₃ : n₃ ≡ n₂ + (places (r .time) + 1)) (e₃ : w₃ ≡ laid w₂ n₂ (spaced (r .time))) where
+      pub after-time : (n₃ ≡ at + length (decimal number ++ spaced answer ++ spaced (r .time))) × (n₃ + 252 ≤ length w₃)
+          × (w₃ ≡ laid out at (decimal number ++ spaced answer ++ spaced (r .time)))
+      after-time =
+          let n : n₃ ≡ at + length (decimal number ++ spaced answer ++ spaced (r .time)) =
+          l₃ ∙ omega (arith, after-answer .0, length-append (decimal number ++ spaced answer) (spaced (r .time)), length-spaced (r .time)) in
+          let w = laid-both out at (decimal number ++ spaced answer) (spaced (r .time)) (omega (arith, two-length number answer)) (after-answer .2) (after-answer .0) e₃ in
+          (n, room-left out at (decimal number ++ spaced answer ++ spaced (r .time)) 252 (omega (arith, three-length number answer (r .time))) w n, w)
+
+      module _ {w₄ : List ℕ} {n₄ : ℕ} (l₄ : n₄ ≡ n₃ + length (roundsTo r (r .plan .stations))) (e₄ : w₄ ≡ laid w₃ n₃ (roundsTo r (r .plan .stations))) where
+        abbrev four : List ℕ
+        four = decimal number ++ spaced answer ++ spaced (r .time) ++ roundsTo r (r .plan .stations)
+
+        four-length : length four ≤ 314
+        four-length =
+            omega (
+              arith,
+              length-append (decimal number ++ spaced answer ++ spaced (r .time)) (roundsTo r (r .plan .stations)),
+              three-length number answer (r .time),
+              rounds-most r (r .plan .stations),
+            )
+
+        pub after-rounds : (n₄ ≡ at + length four) × (n₄ + 1 ≤ length w₄) × (w₄ ≡ laid out at four)
+        after-rounds =
+            let n : n₄ ≡ at + length four =
+            l₄ ∙ omega (arith, after-time .0, length-append (decimal number ++ spaced answer ++ spaced (r .time)) (roundsTo r (r .plan .stations))) in
+            let w =
+            laid-both out at (decimal number ++ spaced answer ++ spaced (r .time)) (roundsTo r (r .plan .stations)) (omega (arith, three-length number answer (r .time)))
+            (after-time .2) (after-time .0) e₄ in
+            (n, room-left out at four 1 (omega (arith, four-length)) w n, w)
+
+        -- the whole line
+        pub after-line : {w : List ℕ} {n : ℕ} → n ≡ n₄ + 1 → w ≡ laid w₄ n₄ (single 10)
+            → (n ≡ at + length (eventLine number answer r)) × (w ≡ laid out at (eventLine number answer r))
+        unfolding eventLine
+        after-line l e = (
+          l ∙ omega (arith, after-rounds .0, length-append four (single 10)),
+          laid-both out at four (single 10) (omega (arith, four-length)) (after-rounds .2) (after-rounds .0) e,
+        )
+
+-- ---- where there is no room
+
+pub fits-not : (l : Line) (out : List ℕ) (at : ℕ) → 12 < l .plan .stations → fits l out at ≡ false
+unfolding fits
+fits-not l out at h = rw (lt-leb (l .plan .stations) 12 h) refl
+
+pub fits-short : (l : Line) (out : List ℕ) (at : ℕ) → l .plan .stations ≤ 12 → length out < at + 320 → fits l out at ≡ false
+unfolding fits roomy
+fits-short l out at h b = rw (le-leb (l .plan .stations) 12 h, lt-leb (at + 320) (length out) b) refl
+
+pub fits-well : (l : Line) (out : List ℕ) (at : ℕ) → l .plan .stations ≤ 12 → at + 320 ≤ length out → fits l out at ≡ true
+unfolding fits roomy
+fits-well l out at h b = rw (le-leb (l .plan .stations) 12 h, le-leb (at + 320) (length out) b) refl

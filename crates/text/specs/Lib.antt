@@ -1,0 +1,3 @@
+-- The lines of a rehearsal: their bytes, then the laws.
+pub mod Text
+pub mod Laws

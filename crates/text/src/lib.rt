@@ -1,0 +1,119 @@
+// The lines of a rehearsal as bytes, laid into a lent buffer. Each function answers the place behind what it wrote; where the
+// buffer has no room for the longest line, nothing is written and the place is as it was.
+ghost use mathlib.Core.Path.{_≡_};
+ghost use Prim.Native.Nat.{_+_, _≤_};
+ghost use lib.ListN.{length};
+ghost use Rattle.clock.specs.Pick.{pick};
+ghost use Rattle.number.specs.Number.{laid};
+ghost use Rattle.line.specs.Held.{runOf};
+ghost use mathlib.Core.List.{[]};
+ghost use Rattle.text.specs.Text as text;
+use line::Line;
+
+// Room for the longest line.
+pub const LONGEST: usize = 320;
+
+// How many decimal digits a number has.
+fn places(x: u64) -> usize
+    ensures { λ r. ⌜ r ≡ text.places x ⌝ }
+{
+    let mut rest = x / 10;
+    let mut count: usize = 1;
+    while rest != 0 {
+        rest = rest / 10;
+        count += 1;
+    }
+    count
+}
+
+// One byte.
+fn put_byte(byte: u8, out: &mut [u8], at: usize) -> usize
+    requires { ⌜ at + 1 ≤ length (now out) ⌝ }
+    ensures { λ r. ⌜ r ≡ at + 1 ⌝ }
+    ensures { λ _. ⌜ now (out .exit) ≡ laid (now (out .entry)) at (text.single byte) ⌝ }
+{
+    out[at] = byte;
+    at + 1
+}
+
+// A number in decimal, the last digit first.
+fn put_decimal(x: u64, out: &mut [u8], at: usize) -> usize
+    requires { ⌜ at + 20 ≤ length (now out) ⌝ }
+    ensures { λ r. ⌜ r ≡ at + text.places x ⌝ }
+    ensures { λ _. ⌜ now (out .exit) ≡ laid (now (out .entry)) at (text.decimal x) ⌝ }
+{
+    let count = places(x);
+    let mut rest = x;
+    let mut left = count;
+    while left != 0 {
+        left -= 1;
+        out[at + left] = 48 + (rest % 10) as u8;
+        rest = rest / 10;
+    }
+    at + count
+}
+
+// A space and a number.
+fn put_spaced(x: u64, out: &mut [u8], at: usize) -> usize
+    requires { ⌜ at + 21 ≤ length (now out) ⌝ }
+    ensures { λ r. ⌜ r ≡ at + (text.places x + 1) ⌝ }
+    ensures { λ _. ⌜ now (out .exit) ≡ laid (now (out .entry)) at (text.spaced x) ⌝ }
+{
+    let next = put_byte(32, out, at);
+    put_decimal(x, out, next)
+}
+
+// A space and the round of station i, `-` if it is faulty.
+fn put_round(l: Line, i: u64, out: &mut [u8], at: usize) -> usize
+    requires { ⌜ l .plan .stations ≤ 12 ⌝ }
+    requires { ⌜ at + 21 ≤ length (now out) ⌝ }
+    ensures { λ r. ⌜ r ≡ at + length (text.roundOf (runOf l []) i) ⌝ }
+    ensures { λ _. ⌜ now (out .exit) ≡ laid (now (out .entry)) at (text.roundOf (runOf l []) i) ⌝ }
+{
+    if mask::has(l.plan.faulty, i) {
+        let next = put_byte(32, out, at);
+        return put_byte(45, out, next);
+    }
+    put_spaced(line::station(l, i).round, out, at)
+}
+
+// Of each station.
+fn put_rounds(l: Line, out: &mut [u8], at: usize) -> usize
+    requires { ⌜ l .plan .stations ≤ 12 ⌝ }
+    requires { ⌜ at + 252 ≤ length (now out) ⌝ }
+    ensures { λ r. ⌜ r ≡ at + length (text.roundsTo (runOf l []) (l .plan .stations)) ⌝ }
+    ensures { λ _. ⌜ now (out .exit) ≡ laid (now (out .entry)) at (text.roundsTo (runOf l []) (l .plan .stations)) ⌝ }
+{
+    let mut next = at;
+    let mut i: u64 = 0;
+    while i < l.plan.stations {
+        next = put_round(l, i, out, next);
+        i += 1;
+    }
+    next
+}
+
+// Event number, answer, real time and the round of each station, single spaces between. Nothing for a line of more than twelve
+// stations.
+pub fn event_line(number: u64, answer: u64, l: Line, out: &mut [u8], at: usize) -> usize
+    ensures { λ r. ⌜ r ≡ text.behind (text.fits l (now (out .entry)) at) at (text.eventLine number answer (runOf l [])) ⌝ }
+    ensures { λ _.
+        ⌜
+        now (out .exit) ≡ text.printed (text.fits l (now (out .entry)) at) (now (out .entry)) at (text.eventLine number answer (runOf l []))
+        ⌝ }
+{
+    if l.plan.stations > 12 {
+        return at;
+    }
+    if out.len() < LONGEST {
+        return at;
+    }
+    if at > out.len() - LONGEST {
+        return at;
+    }
+    let mut next = put_decimal(number, out, at);
+    next = put_spaced(answer, out, next);
+    next = put_spaced(l.time.0, out, next);
+    next = put_rounds(l, out, next);
+    put_byte(10, out, next)
+}
