@@ -6,6 +6,7 @@ pub mod ClockLaws
 pub mod Among
 pub mod Steps
 pub mod Course
+pub mod Kept
 pub mod Timing
 pub mod Signatures
 pub mod Messages

@@ -8,7 +8,6 @@ use native.Mathlib.Nat.{mul-le-mul}
 use native.Mathlib.Omega.{arith}
 use Rattle.clock.specs.Limits.{parts}
 use Rattle.clock.specs.Drift.{rate, keeps}
-use Rattle.clock.specs.Kept.{Kept, kept-still, kept-advance, kept-on}
 use Rattle.setup.specs.declared.Plan.{Plan}
 use Rattle.setup.specs.Laws.{Planned}
 use Rattle.station.specs.declared.Station.{Station}
@@ -20,6 +19,7 @@ use Rattle.line.specs.Moves.{settle-either, hear-either}
 use Rattle.agreement.specs.Clocks.{Clocks}
 use Rattle.agreement.specs.Steps.{Step, Turn, idle, ticks, signs, hears}
 use Rattle.agreement.specs.Course.{Course}
+use Rattle.agreement.specs.Kept.{Kept, kept-still, kept-advance, kept-on}
 
 -- ---- the setup's rules
 

@@ -4,5 +4,4 @@ pub mod Pick
 pub mod Tests
 pub mod Time
 pub mod Drift
-pub mod Kept
 pub mod Fits
