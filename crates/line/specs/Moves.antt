@@ -3,7 +3,7 @@
 use Prim.Native.Nat.{ℕ, zero, suc, _+_, _*_, _-_, _<_, _≤_}
 use mathlib.Core.Bool.{Bool, true, false, _&&_, not}
 use mathlib.Core.List.{List, [], _∷_, _++_, append-assoc, append-nil}
-use mathlib.Core.Path.{_≡_, refl, ap, sym, _∙_}
+use mathlib.Core.Path.{_≡_, refl, ap, ap₂, sym, _∙_}
 use native.Mathlib.Omega.{arith}
 use native.Mathlib.Decide.{decLt}
 use lib.Dec.{ltb, eqb}
@@ -13,7 +13,7 @@ use borrow.Author.Tests.{ltb-true, ltb-false, eqb-true, eqb-false, ne-eqb, lt-lt
 use Rattle.clock.specs.Limits.{maxStations}
 use Rattle.clock.specs.Pick.{pick}
 use Rattle.clock.specs.Tests.{both}
-use Rattle.mask.specs.Mask.{has, count, join, only}
+use Rattle.mask.specs.Mask.{has, count, join, only, all, minus}
 use Rattle.mask.specs.Laws.{has-minus, has-all, has-only}
 use Rattle.setup.specs.declared.Plan.{Plan}
 use Rattle.setup.specs.Laws.{Planned}
@@ -36,17 +36,17 @@ use Rattle.line.specs.Allowed.{Delivers, FaultySends, accepted, advances
 
 -- ---- accepted and refused
 
--- an accepted event has its effect
-pub step-accepted : (r : Run) (e : Event) (increments : List ℕ) → eventAnswer r e increments ≡ 0
-    → step r e increments ≡ effect r e increments
-unfolding step
-step-accepted r e increments h = rw h refl
-
--- a refused one leaves the run untouched
+-- a refused event leaves the run untouched
 pub step-refused : (r : Run) (e : Event) (increments : List ℕ) → (eventAnswer r e increments ≡ 0 → ⊥)
     → step r e increments ≡ r
 unfolding step
-step-refused r e increments h = rw (ne-eqb (eventAnswer r e increments) 0 h) refl
+step-refused r e increments h = ap (λ (b : Bool). pick b (effect r e increments) r) (ne-eqb (eventAnswer r e increments) 0 h)
+
+-- an accepted one has its effect
+pub step-accepted : (r : Run) (e : Event) (increments : List ℕ) → eventAnswer r e increments ≡ 0
+    → step r e increments ≡ effect r e increments
+unfolding step
+step-accepted r e increments h = ap (λ (b : Bool). pick b (effect r e increments) r) (eq-eqb (eventAnswer r e increments) 0 h)
 
 -- ---- a station's step
 
@@ -100,7 +100,9 @@ pub others-are : (plan : Plan) (i j : ℕ) → Planned plan → i < plan .statio
 unfolding others sound
 others-are plan i j p h =
     let w : plan .stations ≤ 63 = omega (arith, p .stations .1) in
-    rw (has-minus, has-minus, has-all (plan .stations) j w, has-only i j (omega arith)) refl
+    has-minus (minus (all (plan .stations)) (plan .faulty)) (only i) j
+    ∙ ap₂ (λ (a b : Bool). a && not b) (has-minus (all (plan .stations)) (plan .faulty) j) (has-only i j (omega arith))
+    ∙ ap (λ (a : Bool). a && not (has (plan .faulty) j) && not (eqb i j)) (has-all (plan .stations) j w)
 
 -- what holds of its ready and of its relay to each of the others, where it sends one, holds of all that it sends
 pub all-sends : {P : Message → Type 0} (plan : Plan) (time i k : ℕ) (o : Outcome)

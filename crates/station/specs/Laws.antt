@@ -40,11 +40,13 @@ module _ (plan : Plan) (s : Station) where
     pub settle-starts : plan .faults < held → (next : Station) → next ≡ start plan s
         → record { station = next; ready = ready; relay = s .gathered } ≡ settle ready plan s
     unfolding settle complete
-    settle-starts h next e = rw (lt-ltb (plan .faults) (count (s .gathered)) (omega arith), e)
+    settle-starts h next e =
+        let holds : complete plan s ≡ true = lt-ltb (plan .faults) (count (s .gathered)) (omega arith) in
+        rw (holds, e)
 
     pub settle-waits : held ≤ plan .faults → record { station = s; ready = ready; relay = 0 } ≡ settle ready plan s
     unfolding settle complete
-    settle-waits h = rw (le-ltb (plan .faults) (count (s .gathered)) (omega arith))
+    settle-waits h = let lacks : complete plan s ≡ false = le-ltb (plan .faults) (count (s .gathered)) (omega arith) in rw lacks
 
   pub hear-other : (round signers : ℕ) (o : Outcome) → (round ≡ waits s → ⊥) → o ≡ still s → o ≡ hear plan round signers s
   unfolding hear
@@ -54,13 +56,17 @@ module _ (plan : Plan) (s : Station) where
       → o ≡ settle false plan (record { round = s .round; reading = s .reading; signed = s .signed; gathered = held })
       → o ≡ hear plan round signers s
   unfolding hear gather
-  hear-own round signers o held h e f = rw (eq-eqb round (waits s) h, ← e) f
+  hear-own round signers o held h e f =
+      rw (eq-eqb round (waits s) h)
+      (f ∙ ap (λ (g : ℕ). settle false plan (record { round = s .round; reading = s .reading; signed = s .signed; gathered = g })) e)
 
   pub sign-is : (i : ℕ) (o : Outcome) (own held : ℕ) → own ≡ only i → held ≡ join (s .gathered) own
       → o ≡ settle true plan (record { round = s .round; reading = s .reading; signed = waits s; gathered = held })
       → o ≡ sign plan i s
   unfolding sign
-  sign-is i o own held h e f = rw (← h, ← e) f
+  sign-is i o own held h e f =
+      let joined : held ≡ join (s .gathered) (only i) = e ∙ ap (join (s .gathered)) h in
+      f ∙ ap (λ (g : ℕ). settle true plan (record { round = s .round; reading = s .reading; signed = waits s; gathered = g })) joined
 
   module _ (i by : ℕ) (h : Steady plan by s) (reading : Reading) (e : reading .0 ≡ later (s .reading .0) by) where
     pub moved-is : record { round = s .round; reading = reading; signed = s .signed; gathered = s .gathered } ≡ move by s
