@@ -1,6 +1,6 @@
 -- Every history leaves the record of its run valid, and the number in flight is the messages sent to sound stations less the
--- messages delivered, both counted from that history: what was sent is read off the stations' states before and after each
--- event, and never off the flight. Each event keeps the record valid and the count right, so every history does.
+-- messages delivered, both counted from that history: it tells of each event its answer and the stations before and after it,
+-- and nothing of the flight. Each event keeps the record valid and the count right, so every history does.
 use Prim.Native.Nat.{ℕ, zero, suc, _+_, _*_, _<_, _≤_}
 use mathlib.Core.Bool.{Bool, true, false, not}
 use mathlib.Core.List.{List, [], _∷_, _++_}
@@ -24,7 +24,7 @@ use Rattle.flight.specs.Message.{sentTo, indexOf, without}
 use Rattle.flight.specs.Members.{length-without, length-sentTo}
 use Rattle.event.specs.declared.Event.{Event}
 use Rattle.event.specs.declared.Event.the-variants.{Advance, Deliver, Send}
-use Rattle.line.specs.Run.{Run, stationAt, fresh, others, readyOf, relayOf, sends, landsAt}
+use Rattle.line.specs.Run.{Run, noStation, stationAt, fresh, others, readyOf, relayOf, sends, landsAt}
 use Rattle.line.specs.Record.{badRecord}
 use Rattle.line.specs.Event.{namesOf, eventAnswer, step}
 use Rattle.line.specs.Valid.{Ruled, Between, nobody, fresh-valid}
@@ -84,13 +84,13 @@ sumTo (suc k) f = sumTo k f + f k
 abbrev pub sentFrom : Plan → ℕ → Station → Station → ℕ
 sentFrom plan i before after = othersOf plan i * told before after
 
--- between two states of the line
-abbrev pub sentAt : Run → Run → ℕ → ℕ
-sentAt before after i = sentFrom (before .plan) i (stationAt before i) (stationAt after i)
+-- between two states of the stations
+abbrev pub sentAt : Plan → List Station → List Station → ℕ → ℕ
+sentAt plan before after i = sentFrom plan i (getD before i noStation) (getD after i noStation)
 
 -- and all stations together
-unfoldable pub sentBy : Run → Run → ℕ
-sentBy before after = sumTo (before .plan .stations) (sentAt before after)
+unfoldable pub sentBetween : Plan → List Station → List Station → ℕ
+sentBetween plan before after = sumTo (plan .stations) (sentAt plan before after)
 
 -- one message for a deliver
 unfoldable pub taken : Event → ℕ
@@ -98,19 +98,40 @@ taken (Advance d) = 0
 taken (Deliver sender recipient round kind) = 1
 taken (Send sender recipient round signers) = 0
 
--- that is accepted
-unfoldable pub deliveredBy : Run → Event → List ℕ → ℕ
-deliveredBy r e increments = pick (eqb (eventAnswer r e increments) 0) (taken e) 0
+-- what a history tells of an event: its answer, and the stations that it met and left
+pub record Seen : Type 0 where
+  pub event : Event
+  pub answer : ℕ
+  pub plan : Plan
+  pub before : List Station
+  pub after : List Station
 
 -- messages sent to sound stations over a history
-unfoldable pub sentIn : Run → List Entry → ℕ
-sentIn r [] = 0
-sentIn r (e ∷ es) = sentBy r (step r (e .event) (e .increments)) + sentIn (step r (e .event) (e .increments)) es
+unfoldable pub sentIn : List Seen → ℕ
+sentIn [] = 0
+sentIn (s ∷ ss) = sentBetween (s .plan) (s .before) (s .after) + sentIn ss
 
--- messages delivered over a history
-unfoldable pub deliveredIn : Run → List Entry → ℕ
-deliveredIn r [] = 0
-deliveredIn r (e ∷ es) = deliveredBy r (e .event) (e .increments) + deliveredIn (step r (e .event) (e .increments)) es
+-- messages delivered over a history: one for each deliver that was accepted
+unfoldable pub deliveredIn : List Seen → ℕ
+deliveredIn [] = 0
+deliveredIn (s ∷ ss) = pick (eqb (s .answer) 0) (taken (s .event)) 0 + deliveredIn ss
+
+-- the history of a run under a list of events
+unfoldable pub seen : Run → List Entry → List Seen
+seen r [] = []
+seen r (e ∷ es) =
+    record {
+      event = e .event;
+      answer = eventAnswer r (e .event) (e .increments);
+      plan = r .plan;
+      before = r .stations;
+      after = step r (e .event) (e .increments) .stations;
+    }
+    ∷ seen (step r (e .event) (e .increments)) es
+
+-- what the stations sent between two runs
+abbrev sentBy : Run → Run → ℕ
+sentBy before after = sentBetween (before .plan) (before .stations) (after .stations)
 
 -- ---- sums
 
@@ -236,15 +257,15 @@ module _ (r : Run) (d : ℕ) (increments : List ℕ) (v : Between nobody r) (a :
 -- an accepted advance adds what the stations sent
 count-advance : (r : Run) (d : ℕ) (increments : List ℕ) → eventAnswer r (Advance d) increments ≡ 0
     → length (step r (Advance d) increments .flight) ≡ length (r .flight) + sentBy r (step r (Advance d) increments)
-unfolding sentBy
+unfolding sentBetween
 count-advance r d increments h =
     let a = accepted r (Advance d) increments h in
     let sent = length-advance r d increments (a .0 .rules) (advances r increments d (a .1)) (r .plan .stations) (omega arith) in
-    let same = sum-same (r .plan .stations) _ (sentAt r (step r (Advance d) increments)) changed in
+    let same = sum-same (r .plan .stations) _ (sentAt (r .plan) (r .stations) (step r (Advance d) increments .stations)) changed in
     rw (advance-flight r d increments h, length-append) (omega (arith, sent, same))
   where
     changed : (i : ℕ) → i < r .plan .stations
-        → sentFrom (r .plan) i (stationAt r i) (advanceAt r increments i .station) ≡ sentAt r (step r (Advance d) increments) i
+        → sentFrom (r .plan) i (stationAt r i) (advanceAt r increments i .station) ≡ sentAt (r .plan) (r .stations) (step r (Advance d) increments .stations) i
     changed i b = rw (advance-station r d increments h i b) refl
 
 -- only the recipient has heard, so only it has sent
@@ -252,14 +273,14 @@ count-heard : (r after : Run) (recipient round signers : ℕ) → recipient < r 
     → stationAt after recipient ≡ heard r recipient round signers .station
     → ((i : ℕ) → (i ≡ recipient → ⊥) → stationAt after i ≡ stationAt r i)
     → length (heardSends r recipient round signers) ≡ sentBy r after
-unfolding sentBy
+unfolding sentBetween
 count-heard r after recipient round signers h here rest =
     length-sends (r .plan) (r .time) recipient _ (stationAt r recipient) (heard r recipient round signers)
     (hear-tells (r .plan) round signers (stationAt r recipient))
     ∙ ap (sentFrom (r .plan) recipient (stationAt r recipient)) (sym here)
-    ∙ sym (sum-one (r .plan .stations) (sentAt r after) recipient h others-none)
+    ∙ sym (sum-one (r .plan .stations) (sentAt (r .plan) (r .stations) (after .stations)) recipient h others-none)
   where
-    others-none : (i : ℕ) → (i ≡ recipient → ⊥) → sentAt r after i ≡ 0
+    others-none : (i : ℕ) → (i ≡ recipient → ⊥) → sentAt (r .plan) (r .stations) (after .stations) i ≡ 0
     others-none i ne = rw (rest i ne, told-none (stationAt r i)) (omega arith)
 
 -- an accepted deliver takes one message and adds what its recipient sent
@@ -316,13 +337,13 @@ count-accepted r (Send sender recipient round signers) increments h =
 
 -- a run that is left untouched sends nothing
 sent-none : (r : Run) → sentBy r r ≡ 0
-unfolding sentBy
-sent-none r = sum-none (r .plan .stations) (sentAt r r) (λ i h. rw (told-none (stationAt r i)) (omega arith))
+unfolding sentBetween
+sent-none r = sum-none (r .plan .stations) (sentAt (r .plan) (r .stations) (r .stations)) (λ i h. rw (told-none (stationAt r i)) (omega arith))
 
 -- what is in flight after an event and what it delivered are what was in flight before it and what it sent
-pub count-step : (r : Run) (e : Event) (increments : List ℕ)
-    → length (step r e increments .flight) + deliveredBy r e increments ≡ length (r .flight) + sentBy r (step r e increments)
-unfolding deliveredBy
+count-step : (r : Run) (e : Event) (increments : List ℕ)
+    → length (step r e increments .flight) + pick (eqb (eventAnswer r e increments) 0) (taken e) 0
+    ≡ length (r .flight) + sentBy r (step r e increments)
 count-step r e increments = go (eqb (eventAnswer r e increments) 0) refl
   where
     go : (b : Bool) → eqb (eventAnswer r e increments) 0 ≡ b
@@ -334,14 +355,14 @@ count-step r e increments = go (eqb (eventAnswer r e increments) 0) refl
 
 -- from any run
 pub count-played : (r : Run) (es : List Entry)
-    → length (played r es .flight) + deliveredIn r es ≡ length (r .flight) + sentIn r es
-unfolding played deliveredIn sentIn
+    → length (played r es .flight) + deliveredIn (seen r es) ≡ length (r .flight) + sentIn (seen r es)
+unfolding played deliveredIn sentIn seen
 count-played r [] = refl
 count-played r (e ∷ es) =
     omega (arith, count-step r (e .event) (e .increments), count-played (step r (e .event) (e .increments)) es)
 
 -- and from a fresh one: the number in flight equals messages sent to sound stations less messages delivered
 pub history-count : (plan : Plan) (first : List ℕ) (es : List Entry)
-    → length (played (fresh plan first) es .flight) + deliveredIn (fresh plan first) es ≡ sentIn (fresh plan first) es
+    → length (played (fresh plan first) es .flight) + deliveredIn (seen (fresh plan first) es) ≡ sentIn (seen (fresh plan first) es)
 unfolding fresh
 history-count plan first es = omega (arith, count-played (fresh plan first) es)

@@ -17,7 +17,7 @@ use Rattle.event.specs.Event.{badIncrement, badAdvance, badEnds, barred}
 use Rattle.line.specs.Run.{Run, sound, freshStations, fresh, others, sends, become, signAt, hearAt, movedAll, moves, landsAt, signTo}
 use Rattle.line.specs.Record.{badFaulty, badStationAt, someStation, badContent, badWay, badRound, badMessage, badRecord}
 use Rattle.line.specs.Event.{takeOut, effect, exceedsAt, driftsAt, passesAt, unsignedAt, unsigned, full, eventRules, stepAnswer, eventAnswer, step}
-use Rattle.line.specs.History.{Entry, told, sumTo, sentBy, taken, deliveredBy, sentIn, deliveredIn}
+use Rattle.line.specs.History.{Entry, told, sumTo, sentBetween, taken, sentIn, deliveredIn, seen}
 
 -- n 3, f 1, r 0, T 2, D 2, A 4, P 7, station 2 faulty
 abbrev plan : Plan
@@ -78,6 +78,6 @@ unfolding keeps someTo has countTo count below join only all minus badStations b
 event-lines = refl
 
 -- counted from its history, three messages were sent and two delivered
-pub rehearsal-count : (sentIn (fresh plan first) script ≡ 3) × (deliveredIn (fresh plan first) script ≡ 2)
-unfolding keeps someTo has countTo count below join only all minus badStations badFaults badLimits badMarks gap steps spreads planAnswer still complete start settle gather hear sign move lands passes advance badNumbers badSigned badGathered badStation exceeds named messageOf indexOf without sentTo someOf late twins badIncrement badAdvance badEnds barred sound freshStations fresh others sends become signAt hearAt movedAll moves landsAt signTo badFaulty badStationAt badContent badWay badRound badMessage badRecord takeOut effect someStation exceedsAt driftsAt passesAt unsignedAt unsigned full eventRules stepAnswer eventAnswer step told sumTo sentBy taken deliveredBy sentIn deliveredIn
+pub rehearsal-count : (sentIn (seen (fresh plan first) script) ≡ 3) × (deliveredIn (seen (fresh plan first) script) ≡ 2)
+unfolding keeps someTo has countTo count below join only all minus badStations badFaults badLimits badMarks gap steps spreads planAnswer still complete start settle gather hear sign move lands passes advance badNumbers badSigned badGathered badStation exceeds named messageOf indexOf without sentTo someOf late twins badIncrement badAdvance badEnds barred sound freshStations fresh others sends become signAt hearAt movedAll moves landsAt signTo badFaulty badStationAt badContent badWay badRound badMessage badRecord takeOut effect someStation exceedsAt driftsAt passesAt unsignedAt unsigned full eventRules stepAnswer eventAnswer step told sumTo sentBetween taken sentIn deliveredIn seen
 rehearsal-count = (refl, refl)

@@ -35,7 +35,7 @@ pub part-most : (b : Bool) (many x : ℕ) → x ≡ pick b many 0 → x ≤ many
 part-most true many x e = omega arith
 part-most false many x e = omega arith
 
--- at most eleven each, and twelve to be safe
+-- at most twelve each
 pub sent-few : (plan : Plan) (i : ℕ) (o : Outcome) → sentBy plan i o ≤ 24
 unfolding sentBy
 sent-few plan i o =

@@ -18,7 +18,7 @@ use Rattle.event.specs.Event.{badIncrement, badAdvance, badEnds, barred}
 use Rattle.line.specs.Run.{sound, freshStations, fresh, others, sends, become, signAt, hearAt, movedAll, moves, landsAt, signTo}
 use Rattle.line.specs.Record.{badFaulty, badStationAt, someStation, badContent, badWay, badRound, badMessage, badRecord}
 use Rattle.line.specs.Event.{takeOut, effect, exceedsAt, driftsAt, passesAt, unsignedAt, unsigned, full, eventRules, stepAnswer, eventAnswer, step}
-use Rattle.line.specs.History.{told, sumTo, sentBy, taken, deliveredBy, sentIn, deliveredIn}
+use Rattle.line.specs.History.{told, sumTo, sentBetween, taken, sentIn, deliveredIn, seen}
 
 -- the base with D, A and P left open: n 4, f 1, r 1, T 2,000, no faulty
 abbrev plan : ℕ → ℕ → ℕ → Plan
@@ -60,7 +60,7 @@ pub record Values : Type 0 where
   pub fast-refused : advanced 10_002 ≡ 13
 
 pub values : Values
-unfolding readNumber numberFrom ends setupAnswer firstAnswer someTo badFirst planAnswer badStations badFaults badLimits badMarks gap steps spreads has countTo count below keeps join only all minus still complete start settle gather hear sign move lands passes advance badNumbers badSigned badGathered badStation exceeds named messageOf indexOf without sentTo someOf late twins badIncrement badAdvance badEnds barred sound freshStations fresh others sends become signAt hearAt movedAll moves landsAt signTo badFaulty badStationAt badContent badWay badRound badMessage badRecord takeOut effect someStation exceedsAt driftsAt passesAt unsignedAt unsigned full eventRules stepAnswer eventAnswer step told sumTo sentBy taken deliveredBy sentIn deliveredIn
+unfolding readNumber numberFrom ends setupAnswer firstAnswer someTo badFirst planAnswer badStations badFaults badLimits badMarks gap steps spreads has countTo count below keeps join only all minus still complete start settle gather hear sign move lands passes advance badNumbers badSigned badGathered badStation exceeds named messageOf indexOf without sentTo someOf late twins badIncrement badAdvance badEnds barred sound freshStations fresh others sends become signAt hearAt movedAll moves landsAt signTo badFaulty badStationAt badContent badWay badRound badMessage badRecord takeOut effect someStation exceedsAt driftsAt passesAt unsignedAt unsigned full eventRules stepAnswer eventAnswer step told sumTo sentBetween taken sentIn deliveredIn seen
 values = record {
   base = refl;
   spread = refl;
