@@ -1,9 +1,9 @@
 -- What the answer 0 to an event says: each of the rules 10 to 19 by name, as a fact. Each table of refusals is taken apart
 -- once, here, and no later proof looks at a test.
-use Prim.Native.Nat.{ℕ, _+_, _^_, _<_, _≤_}
+use Prim.Native.Nat.{ℕ, suc, _+_, _^_, _<_, _≤_}
 use mathlib.Core.Bool.{Bool, true, false, _&&_, _||_, not}
 use mathlib.Core.List.{List}
-use mathlib.Core.Path.{_≡_}
+use mathlib.Core.Path.{_≡_, refl, sym, _∙_}
 use native.Mathlib.Decide.{decLt}
 use native.Mathlib.Omega.{arith}
 use lib.Dec.{ltb, leb, eqb}
@@ -18,14 +18,15 @@ use Rattle.setup.specs.declared.Plan.{Plan}
 use Rattle.station.specs.declared.Station.{Station}
 use Rattle.station.specs.Station.{waits, markFor, passes}
 use Rattle.station.specs.Record.{exceeds}
-use Rattle.flight.specs.Message.{indexOf, overdue}
+use Rattle.flight.specs.Message.{indexOf}
 use Rattle.flight.specs.Members.{All, none-overdue, indexOf-most}
 use Rattle.event.specs.declared.Event.{Event}
 use Rattle.event.specs.declared.Event.the-variants.{Advance, Deliver, Send}
 use Rattle.event.specs.Event.{badIncrement, badAdvance, badEnds, barred}
 use Rattle.line.specs.Run.{Run, sound, stationAt}
 use Rattle.line.specs.Record.{someStation, badRecord}
-use Rattle.line.specs.Event.{namesOf, effect, exceedsAt, driftsAt, passesAt, unsignedAt, unsigned, full, eventRules, stepAnswer, eventAnswer}
+use Rattle.line.specs.Event.{namesOf, effect, exceedsAt, driftsAt, passesAt, unsignedAt, unsigned, full, stepAnswer, eventAnswer}
+use Rattle.line.specs.Order.{twelve, thirteen, fourteen, fifteen, advance-last, sixteen, deliver-last, seventeen, eighteen, send-last}
 use Rattle.line.specs.Valid.{Sound, Valid, valid-is, none-station, is-sound}
 
 -- an advance by d that is accepted
@@ -86,6 +87,11 @@ pub second-fails : (a b : Bool) → (a && b) ≡ false → a ≡ true → b ≡ 
 second-fails true b e t = e
 second-fails false b e t = let z : _≡_ {A = ℕ} 0 1 = cc in absurd (omega arith)
 
+-- a test that would give a number is not met by an event that is answered 0
+unmet : (test : Bool) (number : ℕ) {answer : ℕ} → (test ≡ true → answer ≡ suc number) → answer ≡ 0 → test ≡ false
+unmet true number given z = absurd (omega (arith, given refl))
+unmet false number given z = refl
+
 -- ---- the tables taken apart
 
 -- an event that is answered 0 met a valid record, and none of the rules 11 to 19 refuses it
@@ -128,20 +134,22 @@ ends-is plan sender recipient round e =
 module _ (r : Run) (increments : List ℕ) where
   -- an advance that is answered 0
   pub advances : (d : ℕ) → stepAnswer r (Advance d) increments ≡ 0 → Advances r d increments
-  unfolding stepAnswer eventRules barred badAdvance exceedsAt driftsAt passesAt passes full
+  unfolding stepAnswer barred badAdvance exceedsAt driftsAt passesAt passes full
   advances d e =
       let eleven = refuse-none (badAdvance (r .plan .stations) (r .plan .faulty) d increments) 10 _ e in
-      let twelve = refuse-none (ltb maxTime (r .time + d) || someStation (exceedsAt r increments) (r .plan .stations)) 11 _ (eleven .1) in
-      let thirteen = refuse-none (someStation (driftsAt r d increments) (r .plan .stations)) 12 _ (twelve .1) in
-      let fourteen = refuse-none (someStation (passesAt r increments) (r .plan .stations)) 13 _ (thirteen .1) in
-      let fifteen = refuse-none (overdue (r .time + d) (r .plan .bound) (r .flight)) 14 _ (fourteen .1) in
-      let nineteen = refuse-none (full (effect r (Advance d) increments)) 18 _ (fifteen .1) in
+      let not12 = unmet _ 11 (twelve r d increments) (eleven .1) in
+      let not13 = unmet _ 12 (thirteen r d increments not12) (eleven .1) in
+      let not14 = unmet _ 13 (fourteen r d increments not12 not13) (eleven .1) in
+      let not15 = unmet _ 14 (fifteen r d increments not12 not13 not14) (eleven .1) in
+      let nineteen =
+      refuse-none (full (effect r (Advance d) increments)) 18 0
+      (sym (advance-last r d increments not12 not13 not14 not15) ∙ eleven .1) in
       let a =
       neither (outside 1 maxAdvance d || not (eqb (length increments) (r .plan .stations)))
       (someTo (badIncrement (r .plan .faulty)) increments (length increments)) (eleven .0) in
       let b = neither (outside 1 maxAdvance d) (not (eqb (length increments) (r .plan .stations))) (a .0) in
       let long : length increments ≡ r .plan .stations = eqb-true _ _ (not-false _ (b .1)) in
-      let t = neither (ltb maxTime (r .time + d)) (someStation (exceedsAt r increments) (r .plan .stations)) (twelve .0) in
+      let t = neither (ltb maxTime (r .time + d)) (someStation (exceedsAt r increments) (r .plan .stations)) not12 in
       let allowed : (i : ℕ) → i < r .plan .stations → badIncrement (r .plan .faulty) i (getD increments i 0) ≡ false =
       λ i h. someTo-each (badIncrement (r .plan .faulty)) increments (length increments) i (a .1) (omega (arith, long)) in
       let within : (i : ℕ) → i < r .plan .stations → exceeds (r .plan) (getD increments i 0) (stationAt r i) ≡ false =
@@ -155,21 +163,23 @@ module _ (r : Run) (increments : List ℕ) where
         reading = λ i h. within-is (r .plan) (getD increments i 0) (stationAt r i) (within i h) .0;
         last = λ i h. within-is (r .plan) (getD increments i 0) (stationAt r i) (within i h) .1;
         drift = λ i h. not-false _
-            (second-fails _ _ (none-station (driftsAt r d increments) (r .plan .stations) i (thirteen .0) (h .line)) (is-sound (r .plan) i h));
+            (second-fails _ _ (none-station (driftsAt r d increments) (r .plan .stations) i not13 (h .line)) (is-sound (r .plan) i h));
         mark = λ i h l. ltb-false _ _
-            (second-fails _ _ (none-station (passesAt r increments) (r .plan .stations) i (fourteen .0) h) (lt-ltb _ _ l));
-        wait = none-overdue (r .time + d) (r .plan .bound) (r .flight) (fifteen .0);
+            (second-fails _ _ (none-station (passesAt r increments) (r .plan .stations) i not14 h) (lt-ltb _ _ l));
+        wait = none-overdue (r .time + d) (r .plan .bound) (r .flight) not15;
         room = ltb-false _ _ (nineteen .0);
       }
 
   -- a delivery that is answered 0
   pub delivers : (sender recipient round kind : ℕ) → stepAnswer r (Deliver sender recipient round kind) increments ≡ 0
       → Delivers r sender recipient round kind increments
-  unfolding stepAnswer eventRules barred full
+  unfolding stepAnswer barred full
   delivers sender recipient round kind e =
       let eleven = refuse-none (badEnds (r .plan .stations) (r .plan .faulty) sender recipient round || ltb 1 kind) 10 _ e in
-      let sixteen = refuse-none (eqb (indexOf (namesOf sender recipient round kind) (r .flight)) (length (r .flight))) 15 _ (eleven .1) in
-      let nineteen = refuse-none (full (effect r (Deliver sender recipient round kind) increments)) 18 _ (sixteen .1) in
+      let not16 = unmet _ 15 (sixteen r sender recipient round kind increments) (eleven .1) in
+      let nineteen =
+      refuse-none (full (effect r (Deliver sender recipient round kind) increments)) 18 0
+      (sym (deliver-last r sender recipient round kind increments not16) ∙ eleven .1) in
       let a = neither (badEnds (r .plan .stations) (r .plan .faulty) sender recipient round) (ltb 1 kind) (eleven .0) in
       let most = indexOf-most (namesOf sender recipient round kind) (r .flight) in
       record {
@@ -177,7 +187,7 @@ module _ (r : Run) (increments : List ℕ) where
         kinds = ltb-false _ _ (a .1);
         found = elim (decLt (indexOf (namesOf sender recipient round kind) (r .flight)) (length (r .flight))) [
           | yes h ↦ h
-          | no h ↦ absurd (eqb-false (indexOf (namesOf sender recipient round kind) (r .flight)) (length (r .flight)) (sixteen .0) (omega arith))
+          | no h ↦ absurd (eqb-false (indexOf (namesOf sender recipient round kind) (r .flight)) (length (r .flight)) not16 (omega arith))
         ];
         room = ltb-false _ _ (nineteen .0);
       }
@@ -185,28 +195,30 @@ module _ (r : Run) (increments : List ℕ) where
   -- a faulty send that is answered 0
   pub faulty-sends : (sender recipient round signers : ℕ) → stepAnswer r (Send sender recipient round signers) increments ≡ 0
       → FaultySends r sender recipient round signers increments
-  unfolding stepAnswer eventRules barred full below unsigned unsignedAt
+  unfolding stepAnswer barred full below unsigned unsignedAt
   faulty-sends sender recipient round signers e =
       let eleven =
       refuse-none
       (badEnds (r .plan .stations) (r .plan .faulty) sender recipient round || eqb signers 0 || not (below signers (r .plan .stations)))
       10 _ e in
-      let seventeen = refuse-none (not (has (r .plan .faulty) sender)) 16 _ (eleven .1) in
-      let eighteen = refuse-none (unsigned r recipient round signers) 17 _ (seventeen .1) in
-      let nineteen = refuse-none (full (effect r (Send sender recipient round signers) increments)) 18 _ (eighteen .1) in
+      let not17 = unmet _ 16 (seventeen r sender recipient round signers increments) (eleven .1) in
+      let not18 = unmet _ 17 (eighteen r sender recipient round signers increments not17) (eleven .1) in
+      let nineteen =
+      refuse-none (full (effect r (Send sender recipient round signers) increments)) 18 0
+      (sym (send-last r sender recipient round signers increments not17 not18) ∙ eleven .1) in
       let a = neither _ _ (eleven .0) in
       let b = neither (badEnds (r .plan .stations) (r .plan .faulty) sender recipient round) (eqb signers 0) (a .0) in
       record {
         ends = ends-is (r .plan) sender recipient round (b .0);
         nonempty = eqb-false _ _ (b .1);
         below = ltb-true _ _ (not-false _ (a .1));
-        faulty = not-false _ (seventeen .0);
+        faulty = not-false _ not17;
         signed = λ w i h u. eqb-true _ _
             (not-false _
             (second-fails (sound (r .plan) i) _
             (second-fails (has signers i) _
             (none-station (unsignedAt r round signers) (r .plan .stations) i
-            (second-fails (eqb round (waits (stationAt r recipient))) _ (eighteen .0) (eq-eqb _ _ w)) (h .line))
+            (second-fails (eqb round (waits (stationAt r recipient))) _ not18 (eq-eqb _ _ w)) (h .line))
             u)
             (is-sound (r .plan) i h)));
         room = ltb-false _ _ (nineteen .0);

@@ -3,6 +3,7 @@
 pub mod Run
 pub mod Record
 pub mod Event
+pub mod Order
 pub mod Valid
 pub mod Allowed
 pub mod Moves

@@ -31,6 +31,7 @@ use Rattle.line.specs.declared.Line.{Line}
 use Rattle.line.specs.Run.{Run, noStation, stationAt, sends, become, hearAt}
 use Rattle.line.specs.Record.{someStation}
 use Rattle.line.specs.Event.{namesOf, takeOut, effect, unsignedAt, unsigned, full, eventRules}
+use Rattle.line.specs.Order.{sixteen, deliver-last, seventeen, eighteen, send-last}
 use Rattle.line.specs.Held.{firstOf, placeOf, stationOf, runOf}
 use Rattle.line.specs.HeldLaws.{first-length, place-some}
 use Rattle.line.specs.Moves.{heard, heardSends, heardRun}
@@ -147,11 +148,10 @@ module _ (l : Line) (words : List ℕ) (h : Held l words) (x : Names) (at : ℕ)
 
   -- 16: there is none
   pub deliver-none : at ≡ l .count → eventRules (runOf l words) (deliverOf x) [] ≡ 16
-  unfolding eventRules runOf
+  unfolding runOf
   deliver-none z =
-      let same : eqb (indexOf x (decode (l .count) words)) (length (decode (l .count) words)) ≡ true =
-      eq-eqb _ _ (sym found-at ∙ z ∙ sym (length-decode (l .count) words)) in
-      rw same refl
+      sixteen (runOf l words) (x .sender) (x .recipient) (x .round) (x .kind) []
+      (eq-eqb _ _ (sym found-at ∙ z ∙ sym (length-decode (l .count) words)))
 
   module _ (ne : at ≡ l .count → ⊥) (m : Message) (em : m ≡ messageAt words at) (o : Outcome)
       (eo : o ≡ heard (runOf l []) (x .recipient) (x .round) (m .signers)) (k : x .recipient < l .plan .stations) where
@@ -176,12 +176,12 @@ module _ (l : Line) (words : List ℕ) (h : Held l words) (x : Names) (at : ℕ)
 
     -- its table, but for 16
     deliver-rules : eventRules (runOf l words) (deliverOf x) [] ≡ refuse (ltb maxFlight (l .count - 1 + sentBy (l .plan) (x .recipient) o)) 19 0
-    unfolding eventRules runOf
+    unfolding runOf
     deliver-rules =
-        let other : eqb (indexOf x (decode (l .count) words)) (length (decode (l .count) words)) ≡ false =
-        ne-eqb _ _ (λ z. ne (found-at ∙ z ∙ length-decode (l .count) words)) in
         let many = heard-full l words (x .recipient) (x .round) (m .signers) o eo leaving (l .count - 1) length-leaving in
-        rw (other, deliver-effect, many) refl
+        deliver-last (runOf l words) (x .sender) (x .recipient) (x .round) (x .kind) []
+        (ne-eqb _ _ (λ z. ne (found-at ∙ z ∙ length-decode (l .count) words)))
+        ∙ rw (deliver-effect, many) refl
 
     -- 19
     pub deliver-full : maxFlight < l .count - 1 + sentBy (l .plan) (x .recipient) o → eventRules (runOf l words) (deliverOf x) [] ≡ 19
@@ -224,8 +224,8 @@ module _ (l : Line) (words : List ℕ) (h : Held l words) (x : Names) (at : ℕ)
 module _ (l : Line) (words : List ℕ) (h : Held l words) (sender recipient round signers : ℕ) where
   -- 17
   pub send-sound : has (l .plan .faulty) sender ≡ false → eventRules (runOf l words) (Send sender recipient round signers) [] ≡ 17
-  unfolding eventRules runOf
-  send-sound e = rw e refl
+  unfolding runOf
+  send-sound e = seventeen (runOf l words) sender recipient round signers [] (ap not e)
 
   -- whether a needed signature was not made, as the code asks it
   pub unsigned-is : (s : Station) (some : Bool) → s ≡ stationOf l recipient
@@ -238,18 +238,18 @@ module _ (l : Line) (words : List ℕ) (h : Held l words) (sender recipient roun
     -- 18
     pub send-unsigned : unsigned (runOf l words) recipient round signers ≡ true
         → eventRules (runOf l words) (Send sender recipient round signers) [] ≡ 18
-    unfolding eventRules runOf
-    send-unsigned u = rw (e, u) refl
+    unfolding runOf
+    send-unsigned u = eighteen (runOf l words) sender recipient round signers [] (ap not e) u
 
     module _ (u : unsigned (runOf l words) recipient round signers ≡ false) (o : Outcome)
         (eo : o ≡ heard (runOf l []) recipient round signers) where
       -- its table, but for 17 and 18
       send-rules : eventRules (runOf l words) (Send sender recipient round signers) []
           ≡ refuse (ltb maxFlight (l .count + sentBy (l .plan) recipient o)) 19 0
-      unfolding eventRules effect hearAt become runOf
+      unfolding effect hearAt become runOf
       send-rules =
           let many = heard-full l words recipient round signers o eo (decode (l .count) words) (l .count) (sym (length-decode (l .count) words)) in
-          rw (e, u, many) refl
+          send-last (runOf l words) sender recipient round signers [] (ap not e) u ∙ rw many refl
 
       -- 19
       pub send-full : maxFlight < l .count + sentBy (l .plan) recipient o
