@@ -55,7 +55,7 @@ module _ (plan : Plan) (𝓡 : Course plan) where
       (relay-stays plan 𝓡 j shown p h x e l q g t b w) (in-time plan 𝓡 t) .1
 
   -- no later than T after p's start of k is anybody in a round below k
-  pub catch-up : (k : ℕ) → ShownTo (clocks plan 𝓡) k → (p : ℕ) → Sound plan p → (s : ℕ) → k < waits (at plan 𝓡 p s)
+  catch-up : (k : ℕ) → ShownTo (clocks plan 𝓡) k → (p : ℕ) → Sound plan p → (s : ℕ) → k < waits (at plan 𝓡 p s)
       → (q : ℕ) → Sound plan q → (t : ℕ) → s ≤ t → waits (at plan 𝓡 q t) ≤ k → now plan 𝓡 t ≤ now plan 𝓡 s + plan .bound
   unfolding ShownTo
   catch-up k shown p h s l q g t b w =

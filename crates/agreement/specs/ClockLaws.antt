@@ -1,14 +1,14 @@
--- The clock layer of demand 3: everybody waits for k when one comes up to k·P, two that wait for the same round read no more
--- than D apart, and whoever waits for k reads at most k·P + A, the first by induction on k with relay and the others by
--- correctness, each with the clock's law on whole stretches.
+-- The clock layer of demand 3: everybody waits for k when one comes up to k·P, whoever has not started a round follows soon,
+-- two that wait for the same round read no more than D apart, and whoever waits for k reads at most k·P + A, the first by
+-- induction on k with relay, the second by relay and the others by correctness, with the clock's law on whole stretches.
 use Prim.Native.Nat.{ℕ, zero, suc, _+_, _*_, _<_, _≤_, zero-le, suc-le-suc}
-use mathlib.Core.Path.{_≡_, sym, _∙_}
+use mathlib.Core.Path.{_≡_, refl, sym, _∙_}
 use native.Mathlib.Decide.{decLt, decLe}
 use native.Mathlib.Nat.{le-refl, le-trans, le-of-eq, le-of-lt, le-antisymm, lt-suc-self, lt-of-not-le, not-le-of-lt, lt-of-le-of-lt}
 use native.Mathlib.Nat.{le-add-right, le-suc, le-step}
 use native.Mathlib.Omega.{arith}
 use Rattle.agreement.specs.Clocks.{Clocks, Broadcast, Shown, ShownTo, First, HoldsBack}
-use Rattle.agreement.specs.ClockSums.{set-high, most-read, least-read, under-mark, set-under, step-short}
+use Rattle.agreement.specs.ClockSums.{set-high, most-read, least-read, relayed-soon, under-mark, set-under, step-short}
 use Rattle.agreement.specs.ClockSums.{soon-started, soon-unstarted, soon-later, spread-kept, soon-marked, soon-unmarked, step-kept}
 
 -- ---- what never falls
@@ -129,6 +129,21 @@ module _ (𝓒 : Clocks) (𝓑 : Broadcast 𝓒) where
   shown-to : (k : ℕ) → ShownTo 𝓒 k
   unfolding ShownTo
   shown-to k j l = everybody j
+
+  -- ---- the relay
+
+  -- once one has started k, another waits for k or less no longer than W, and what c adds
+  pub follows : (p : ℕ) → 𝓒 .sound p → (s k : ℕ) → k < 𝓒 .waits p s → (q : ℕ) → 𝓒 .sound q → (t : ℕ) → s ≤ t → 𝓒 .waits q t ≤ k
+      → 𝓒 .rate * 𝓒 .now t ≤ 𝓒 .rate * 𝓒 .now s + 𝓒 .rate * 𝓒 .wait + 𝓒 .parts * 𝓒 .slack
+  follows p sp s k l q sq t b h = go (waits p s) refl
+    where
+      go : (x : ℕ) → waits p s ≡ x → rate * now t ≤ rate * now s + rate * wait + parts * slack
+      go zero e = absurd (omega arith)
+      go (suc j) e =
+          let f = first-state 𝓒 p sp s j e in
+          relayed-soon parts rate wait slack (j * period + step) (reads p (f .0)) (now (f .0)) (now s) (now t)
+          (𝓑 .relay j (shown-to j) p sp (f .0) (f .2) q sq t (le-trans (f .1) b) (omega arith))
+          (low-at 𝓒 p sp j (f .0) (f .2)) (now-climbs 𝓒 (f .0) s (f .1))
 
   -- ---- the spread
 

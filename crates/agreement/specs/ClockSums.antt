@@ -20,6 +20,10 @@ most-read M S W c e g a s x t E relayed fast = omega arith
 pub least-read : (M S e g b s y t E : ℕ) → M * t + S * b ≤ M * s + S * y + S * e → g ≤ b → s ≤ E → M * t + S * g ≤ M * E + S * y + S * e
 least-read M S e g b s y t E slow low late = omega (arith, mul-le-mul-left S low, mul-le-mul-left M late)
 
+-- from a start at s that sets g or more and is relayed by t: t is soon after any time from s on
+pub relayed-soon : (M S W c g a s r t : ℕ) → S * t + M * a ≤ S * s + S * W + M * c + M * g → g ≤ a → s ≤ r → S * t ≤ S * r + S * W + M * c
+relayed-soon M S W c g a s r t relayed low late = omega (arith, mul-le-mul-left M low, mul-le-mul-left S late)
+
 -- ---- the gap rule
 
 -- what a clock reads while somebody still waits is below the next mark

@@ -4,10 +4,12 @@ use Prim.Native.Nat.{ℕ, zero, suc, _+_, _*_, _<_, _≤_}
 use mathlib.Core.Bool.{Bool, true, false}
 use mathlib.Core.List.{List}
 use mathlib.Core.Path.{_≡_, refl, ap, sym, subst, _∙_}
+use native.Mathlib.Nat.{le-of-mul-le-mul-left}
 use native.Mathlib.Omega.{arith}
 use lib.Dec.{eqb}
 use lib.ListN.{length, getD}
 use borrow.Author.Tests.{eqb-true}
+use Rattle.clock.specs.Drift.{rate}
 use Rattle.clock.specs.Pick.{pick}
 use Rattle.setup.specs.declared.Plan.{Plan}
 use Rattle.setup.specs.Setup.{setupAnswer}
@@ -22,13 +24,12 @@ use Rattle.line.specs.Allowed.{accepted, advances}
 use Rattle.line.specs.Moves.{moved-at}
 use Rattle.line.specs.History.{Entry}
 use Rattle.agreement.specs.Statement.{after, noEntry, entry, Shows, moved, stationAfter, Agreement}
-use Rattle.agreement.specs.Clocks.{ShownTo}
-use Rattle.agreement.specs.ClockLaws.{everybody, spread-holds, ceiling}
+use Rattle.agreement.specs.ClockLaws.{follows, spread-holds, ceiling}
 use Rattle.agreement.specs.Steps.{moveOf, middle}
 use Rattle.agreement.specs.Course.{Course, after-next, after-valid, after-plan, Showing, even, odd, course}
 use Rattle.agreement.specs.Timing.{at, now, begun, clocks}
 use Rattle.agreement.specs.Signatures.{unforgeable}
-use Rattle.agreement.specs.Broadcasts.{catch-up, broadcast}
+use Rattle.agreement.specs.Broadcasts.{broadcast}
 
 -- in the middle of an event that starts a round the clock has moved by its increment, and nobody has started
 middle-moved : (r : Run) (e : Event) (increments : List ℕ) (p : ℕ) → Sound (r .plan) p → stationAt r p .round < stationAt (step r e increments) p .round
@@ -82,11 +83,6 @@ module _ (plan : Plan) (first : List ℕ) (es : List Entry) (ok : setupAnswer pl
   whole-state : (i p : ℕ) → at plan (course plan first es ok) p (suc (suc (2 * i))) ≡ stationAfter plan first es (suc i) p
   whole-state i p = let e : suc (suc (2 * i)) ≡ 2 * suc i = omega arith in rw e (station-is (suc i) p)
 
-  -- everybody waits for the round whose mark one has come up to
-  shown-all : (k : ℕ) → ShownTo (clocks plan (course plan first es ok)) k
-  unfolding ShownTo
-  shown-all k j l = everybody (clocks plan (course plan first es ok)) (broadcast plan (course plan first es ok)) j
-
   -- first sentence
   has-shown : (i p k : ℕ) → Sound plan p → 1 ≤ k → k ≤ stationAfter plan first es i p .round
       → (j : ℕ) × (j < i) × ((w : ℕ) × Shows (after plan first es j) (entry es j .event) (entry es j .increments) w k)
@@ -104,8 +100,11 @@ module _ (plan : Plan) (first : List ℕ) (es : List Entry) (ok : setupAnswer pl
   catches-up i p k h l j q g b w =
       let s = ap (λ (x : Station). x .round) (station-is (suc i) p) in
       let t = ap (λ (x : Station). x .round) (station-is j q) in
-      let c = catch-up plan (course plan first es ok) k (shown-all k) p h (2 * suc i) (omega arith) q g (2 * j) (omega arith) (omega arith) in
-      omega (arith, c, time-is (suc i), time-is j)
+      let c = follows (clocks plan (course plan first es ok)) (broadcast plan (course plan first es ok)) p h (2 * suc i) k (omega arith) q g (2 * j)
+      (omega arith) (omega arith) in
+      let soon : now plan (course plan first es ok) (2 * j) ≤ now plan (course plan first es ok) (2 * suc i) + plan .bound =
+      le-of-mul-le-mul-left {k = rate (plan .drift)} (omega arith) (omega arith) in
+      omega (arith, soon, time-is (suc i), time-is j)
 
   -- third sentence
   spread-kept : (i p q : ℕ) → Sound plan p → Sound plan q → stationAfter plan first es i p .round ≡ stationAfter plan first es i q .round
