@@ -20,10 +20,10 @@ use Rattle.station.specs.declared.Station.{Station}
 use Rattle.station.specs.Station.{waits, markFor, move}
 use Rattle.event.specs.declared.Event.{Event}
 use Rattle.event.specs.declared.Event.the-variants.{Advance, Deliver, Send}
-use Rattle.line.specs.Run.{Run, noStation, stationAt, fresh, freshStation, freshStations, moves, movedAll}
+use Rattle.line.specs.Run.{Run, stationAt, fresh, moves}
 use Rattle.line.specs.Record.{badRecord}
 use Rattle.line.specs.Event.{effect, eventAnswer, step}
-use Rattle.line.specs.Valid.{Sound, Ruled, Valid, valid-is, fresh-ruled}
+use Rattle.line.specs.Valid.{Sound, Ruled, Valid, valid-is, fresh-at}
 use Rattle.line.specs.Allowed.{Advances, advances}
 use Rattle.line.specs.Allowed.{accepted as allowed}
 use Rattle.line.specs.Moves.{step-refused, moved-at}
@@ -195,12 +195,6 @@ module _ (plan : Plan) (first : List ℕ) (es : List Entry) where
     keeps-from i (suc (suc m)) p h = keeps-from (suc i) m p h
 
     -- how it begins
-    first-at : (xs : List ℕ) (p : ℕ) → getD (freshStations xs) p noStation ≡ freshStation (getD xs p 0)
-    unfolding freshStations
-    first-at [] p = refl
-    first-at (x ∷ xs) zero = refl
-    first-at (x ∷ xs) (suc p) = first-at xs p
-
     pub fresh-begins : (p : ℕ) → Sound plan p → Begins plan (stationAt (stateFrom 0 0) p)
     unfolding stateFrom after played fresh badFirst
     fresh-begins p h =
@@ -208,7 +202,7 @@ module _ (plan : Plan) (first : List ℕ) (es : List Entry) where
         let u = h .unmarked in
         let t = someTo-each (badFirst plan) first (plan .stations) p (a .2) (h .line) in
         let b = inside (plan .step) (plan .step + plan .bound) (getD first p 0) (rw u at t) in
-        rw (first-at first p) (record { round = refl; signed = refl; gathered = refl; reading = b })
+        rw (fresh-at first p) (record { round = refl; signed = refl; gathered = refl; reading = b })
 
     -- the course of a run of an accepted setup
     unfoldable pub course : Course plan

@@ -1,7 +1,7 @@
 -- A fresh run as the code makes it from a setup: 1 to 8, or a run whose model is document 01's fresh run.
 use Prim.Native.Nat.{ℕ, zero, suc, _≤_, _<_}
-use mathlib.Core.List.{List, [], _∷_}
-use mathlib.Core.Path.{_≡_, refl, ap, sym, _∙_}
+use mathlib.Core.List.{List, []}
+use mathlib.Core.Path.{_≡_, refl, sym, _∙_}
 use native.Mathlib.Decide.{decLt}
 use native.Mathlib.Omega.{arith}
 use lib.Dec.{eqb}
@@ -17,6 +17,7 @@ use Rattle.flight.specs.Message.{decode}
 use Rattle.line.specs.declared.Line.{Line}
 use Rattle.line.specs.declared.Begun.{Begun}
 use Rattle.line.specs.Run.{noStation, freshStation, freshStations, fresh}
+use Rattle.line.specs.Valid.{fresh-at, fresh-length}
 use Rattle.line.specs.Held.{firstOf, runOf}
 use Rattle.line.specs.HeldLaws.{first-length, place-some}
 
@@ -62,17 +63,6 @@ seated-at first (suc k) i m h = elim (decLt i k) [
       rw s (getD-set-same (seatedTo first k) k (freshStation (getD first k 0)) noStation (omega (arith, seated-length first k)))
 ]
 
-fresh-length : (first : List ℕ) → length (freshStations first) ≡ length first
-unfolding freshStations
-fresh-length [] = refl
-fresh-length (x ∷ xs) = ap suc (fresh-length xs)
-
-fresh-at : (first : List ℕ) (i : ℕ) → i < length first → getD (freshStations first) i noStation ≡ freshStation (getD first i 0)
-unfolding freshStations
-fresh-at [] i h = absurd (omega arith)
-fresh-at (x ∷ xs) zero h = refl
-fresh-at (x ∷ xs) (suc i) h = fresh-at xs i (omega arith)
-
 -- the run that is made of an accepted setup is the fresh run, whatever the words hold
 pub fresh-run : (plan : Plan) (first words : List ℕ) → setupAnswer plan first ≡ 0
     → runOf (lineFor plan (plan .stations) (seatedTo first (plan .stations))) words ≡ fresh plan first
@@ -86,7 +76,7 @@ fresh-run plan first words e =
     (first-length n (seatedTo first n) ∙ sym (a .1) ∙ sym (fresh-length first))
     (λ i h.
     let b : i < n = omega (arith, first-length n (seatedTo first n)) in
-    sym (place-some n (seatedTo first n) i b) ∙ seated-at first n i most b ∙ sym (fresh-at first i (omega (arith, a .1))))
+    sym (place-some n (seatedTo first n) i b) ∙ seated-at first n i most b ∙ sym (fresh-at first i))
     in
     λ i. record { plan = plan; time = 0; stations = same i; flight = [] }
 

@@ -283,14 +283,14 @@ is-valid r v =
 -- ---- a fresh run
 
 -- each station as its first reading makes it
-fresh-at : (first : List ℕ) (i : ℕ) → getD (freshStations first) i noStation ≡ freshStation (getD first i 0)
+pub fresh-at : (first : List ℕ) (i : ℕ) → getD (freshStations first) i noStation ≡ freshStation (getD first i 0)
 unfolding freshStations
 fresh-at [] i = refl
 fresh-at (x ∷ first) zero = refl
 fresh-at (x ∷ first) (suc i) = fresh-at first i
 
 -- as many as there are first readings
-fresh-length : (first : List ℕ) → length (freshStations first) ≡ length first
+pub fresh-length : (first : List ℕ) → length (freshStations first) ≡ length first
 unfolding freshStations
 fresh-length [] = refl
 fresh-length (x ∷ first) = ap suc (fresh-length first)
