@@ -20,6 +20,7 @@ use Rattle.station.specs.Station.{waits, markFor}
 use Rattle.flight.specs.declared.Message.{Message}
 use Rattle.line.specs.Valid.{Sound}
 use Rattle.agreement.specs.Clocks.{Clocks, Shown, ShownTo, First, HoldsBack, Broadcast}
+use Rattle.agreement.specs.ClockLaws.{now-climbs}
 use Rattle.agreement.specs.Among.{Some, some-all}
 use Rattle.agreement.specs.Course.{Course}
 use Rattle.agreement.specs.Timing.{at, now, rounds, rounds-on, begun, clocks}
@@ -27,14 +28,6 @@ use Rattle.agreement.specs.Signatures.{in-time, Marks, signs-once, unfor
 use Rattle.agreement.specs.Messages.{all-sound, IsRelay, relay-stays, IsReady, ready-stays}
 
 module _ (plan : Plan) (𝓡 : Course plan) where
-  -- time never falls
-  now-on : (i j : ℕ) → i ≤ j → now plan 𝓡 i ≤ now plan 𝓡 j
-  now-on i zero l = let e : i ≡ 0 = omega arith in rw e (omega arith)
-  now-on i (suc j) l = elim (decLe i j) [
-    | yes b ↦ omega (arith, now-on i j b, 𝓡 .steps j .forth)
-    | no b ↦ let e : i ≡ suc j = omega arith in rw e (omega arith)
-  ]
-
   -- the step in which a station that waits for more than j started j
   started-at : (p : ℕ) → Sound plan p → (j s : ℕ) → 1 ≤ j → j < waits (at plan 𝓡 p s)
       → (x : ℕ) × (x < s) × (waits (at plan 𝓡 p x) ≡ j) × (at plan 𝓡 p x .round < at plan 𝓡 p (suc x) .round)
@@ -64,7 +57,7 @@ module _ (plan : Plan) (𝓡 : Course plan) where
       omega (
         arith,
         relay-soon (waits (at plan 𝓡 q t)) (shown (waits (at plan 𝓡 q t)) w) p h (x .0) (x .2) (x .3) q g t (omega (arith, x .1)) refl,
-        now-on (suc (x .0)) s (x .1),
+        now-climbs (clocks plan 𝓡) (suc (x .0)) s (x .1),
       )
 
   -- ---- correctness

@@ -14,7 +14,7 @@ use Rattle.agreement.specs.ClockSums.{soon-started, soon-unstarted, soon
 -- ---- what never falls
 
 -- what does not fall in a step does not fall
-climbs : (f : ℕ → ℕ) → ((m : ℕ) → f m ≤ f (suc m)) → (i j : ℕ) → i ≤ j → f i ≤ f j
+pub climbs : (f : ℕ → ℕ) → ((m : ℕ) → f m ≤ f (suc m)) → (i j : ℕ) → i ≤ j → f i ≤ f j
 climbs f up i zero h = let z : i ≡ 0 = omega arith in rw z (le-refl (f 0))
 climbs f up i (suc j) h = elim (decLe i j) [
   | yes l ↦ le-trans (climbs f up i j l) (up j)
@@ -51,7 +51,7 @@ module _ (𝓒 : Clocks) where
   open Clocks 𝓒 using (parts, rate, step, period, ticks, wait, slack, sound, now, waits, reads)
 
   -- time never falls
-  now-climbs : (i j : ℕ) → i ≤ j → now i ≤ now j
+  pub now-climbs : (i j : ℕ) → i ≤ j → 𝓒 .now i ≤ 𝓒 .now j
   now-climbs i j h = climbs now (𝓒 .later) i j h
 
   -- rounds never fall

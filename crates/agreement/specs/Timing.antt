@@ -17,6 +17,7 @@ use Rattle.line.specs.Run.{Run, stationAt}
 use Rattle.line.specs.Valid.{Sound}
 use Rattle.line.specs.Moves.{settle-either, hear-either}
 use Rattle.agreement.specs.Clocks.{Clocks}
+use Rattle.agreement.specs.ClockLaws.{climbs}
 use Rattle.agreement.specs.Steps.{Step, Turn, idle, ticks, signs, hears}
 use Rattle.agreement.specs.Course.{Course}
 use Rattle.agreement.specs.Kept.{Kept, kept-still, kept-advance, kept-on}
@@ -110,11 +111,7 @@ module _ (plan : Plan) (𝓡 : Course plan) where
       go (started e r c) = absurd (omega arith)
 
   pub rounds-on : (p : ℕ) → Sound plan p → (i j : ℕ) → i ≤ j → at p i .round ≤ at p j .round
-  rounds-on p h i zero l = let e : i ≡ 0 = omega arith in rw e (omega arith)
-  rounds-on p h i (suc j) l = elim (decLe i j) [
-    | yes b ↦ omega (arith, rounds-on p h i j b, rounds p h j .0)
-    | no b ↦ let e : i ≡ suc j = omega arith in rw e (omega arith)
-  ]
+  rounds-on p h = climbs (λ m. at p m .round) (λ m. rounds p h m .0)
 
   -- the clock's law over a stretch
   pub stretch : (p : ℕ) → Sound plan p → (i j : ℕ) → i ≤ j → at p i .round ≡ at p j .round
