@@ -42,11 +42,6 @@ up-to Q base next (suc k) j h = elim (decLe j k) [
 
 -- ---- the clocks alone
 
--- if one waits for k and reads k·P or more, everybody waits for k or more: `Shown`, written out
-abbrev pub Plainly : Clocks → ℕ → Type 0
-Plainly 𝓒 k =
-    (p : ℕ) → 𝓒 .sound p → (m : ℕ) → 𝓒 .waits p m ≡ k → k * 𝓒 .period ≤ 𝓒 .reads p m → (q : ℕ) → 𝓒 .sound q → k ≤ 𝓒 .waits q m
-
 module _ (𝓒 : Clocks) where
   open Clocks 𝓒 using (parts, rate, step, period, ticks, wait, slack, sound, now, waits, reads)
 
@@ -103,7 +98,8 @@ module _ (𝓒 : Clocks) (𝓑 : Broadcast 𝓒) where
   open Clocks 𝓒 using (parts, rate, bound, spread, step, period, ticks, wait, slack, excess, sound, now, waits, reads)
 
   -- if one waits for k + 1 and reads (k + 1)·P or more while another waits for k or less, relay is against the gap rule
-  shown-next : (k : ℕ) → ShownTo 𝓒 k → Plainly 𝓒 (suc k)
+  shown-next : (k : ℕ) → ShownTo 𝓒 k → Shown 𝓒 (suc k)
+  unfolding Shown
   shown-next k shown p sp m h r q sq = elim (decLe (waits q m) k) [
     | yes l ↦
         let f = first-state 𝓒 p sp m k h in
@@ -114,21 +110,14 @@ module _ (𝓒 : Clocks) (𝓑 : Broadcast 𝓒) where
   ]
 
   -- by induction on k; for 0 it is trivial
-  shown-plainly : (k : ℕ) → Plainly 𝓒 k
+  shown-to : (k : ℕ) → ShownTo 𝓒 k
   unfolding Shown ShownTo
-  shown-plainly k =
-      up-to (Plainly 𝓒) (λ p sp m h r q sq. zero-le)
-      (λ j to. shown-next j to) k k (le-refl k)
+  shown-to k = up-to (Shown 𝓒) (λ p sp m h r q sq. zero-le) (λ j to. shown-next j to) k
 
   -- if one waits for k and reads k·P or more, everybody waits for k or more
   pub everybody : (k : ℕ) → Shown 𝓒 k
-  unfolding Shown
-  everybody k = shown-plainly k
-
-  -- of every round up to k
-  shown-to : (k : ℕ) → ShownTo 𝓒 k
   unfolding ShownTo
-  shown-to k j l = everybody j
+  everybody k = shown-to k k (le-refl k)
 
   -- ---- the relay
 
@@ -247,12 +236,13 @@ module _ (𝓒 : Clocks) (𝓑 : Broadcast 𝓒) where
   -- p at its mark at x, held back by w: m is soon after x
   ceiling-soon : (p : ℕ) → sound p → (m k x : ℕ) → waits p x ≡ suc k → reads p x ≡ suc k * period
       → (w : ℕ) → sound w → (y : ℕ) → HoldsBack 𝓒 (suc k) w y m → parts * now m ≤ parts * now x + rate * (spread + ticks) + parts * bound
+  unfolding Shown
   ceiling-soon p sp m k x hx rx w sw y held = elim (decLe y x) [
     | yes l ↦ soon-unmarked parts rate bound spread ticks (now x) (now y) (now m) (held .soon) (now-climbs 𝓒 y x l)
     | no l ↦
         let xy : x ≤ y = le-of-lt (lt-of-not-le l) in
         let up : waits w x ≤ waits w y = waits-climbs 𝓒 w sw x y xy in
-        let shown : suc k ≤ waits w x = shown-plainly (suc k) p sp x hx (le-of-eq (sym rx)) w sw in
+        let shown : suc k ≤ waits w x = everybody (suc k) p sp x hx (le-of-eq (sym rx)) w sw in
         let wx : waits w x ≡ suc k = le-antisymm (le-trans up (held .waiting)) shown in
         let wy : waits w y ≡ suc k = le-antisymm (held .waiting) (le-trans shown up) in
         soon-marked parts rate bound spread ticks (suc k * period) (reads w x) (now x) (reads w y) (now y) (now m)

@@ -110,6 +110,7 @@ module _ (plan : Plan) (𝓡 : Course plan) where
       go (went d x e r c k f) = omega (arith, f l)
       go (started e r c) = absurd (omega arith)
 
+  -- over several steps too a round never falls
   pub rounds-on : (p : ℕ) → Sound plan p → (i j : ℕ) → i ≤ j → at p i .round ≤ at p j .round
   rounds-on p h = climbs (λ m. at p m .round) (λ m. rounds p h m .0)
 
