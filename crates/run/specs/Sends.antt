@@ -7,21 +7,18 @@ use mathlib.Core.Path.{_≡_, refl, ap, sym, _∙_}
 use native.Mathlib.Omega.{arith}
 use lib.Dec.{eqb}
 use lib.ListN.{length, getD, length-append}
-use lib.Pow.{pow-pos}
 use borrow.Author.Tests.{eqb-true, not-true, le-leb}
-use Rattle.clock.specs.Limits.{maxStations}
 use Rattle.clock.specs.Pick.{pick}
 use Rattle.clock.specs.Tests.{both}
-use Rattle.mask.specs.Mask.{has, count, only}
+use Rattle.mask.specs.Mask.{count}
 use Rattle.mask.specs.Laws.{has-below, only-lt}
 use Rattle.setup.specs.declared.Plan.{Plan}
 use Rattle.station.specs.declared.Outcome.{Outcome}
 use Rattle.flight.specs.declared.Message.{Message}
 use Rattle.flight.specs.declared.Answer.{Answer}
 use Rattle.flight.specs.Message.{decode, coded, holds, Codable, sentTo, canSend, answer, after}
-use Rattle.flight.specs.Coding.{length-decode, length-coded, coded-decode, decode-codable, Laid, laid-decode, laid-length, laid-over}
+use Rattle.flight.specs.Coding.{length-decode, coded-decode, decode-codable, Laid, laid-decode, laid-length, laid-over}
 use Rattle.flight.specs.Members.{All, all-append}
-use Rattle.flight.specs.Keys.{Packs}
 use Rattle.flight.specs.Sending.{count-sent, count-few, codable-sent, send-allowed}
 use Rattle.line.specs.Run.{others, readyOf, relayOf, sends}
 
@@ -173,21 +170,20 @@ module _ (plan : Plan) (time i k : ℕ) (o : Outcome) where
         ∙ ap (coded words) (append-assoc (decode n words) readies relays ∙ ap (λ (ms : List Message). decode n words ++ ms) sends-masks)
 
     -- the two sends as the code makes them
-    pub both-sends : (own to more : ℕ) (a b : Answer) (w x : List ℕ) → own ≡ only i → to ≡ pick (o .ready) (others plan i) 0
+    pub both-sends : (ready : Message) (to more : ℕ) (a b : Answer) (w x : List ℕ) → to ≡ pick (o .ready) (others plan i) 0
         → more ≡ pick (not (eqb (o .relay) 0)) (others plan i) 0
-        → a ≡ answer (canSend n words (record { sender = i; recipient = 0; round = k; kind = 0; signers = own; sent = record { 0 = time } }) 12 to) n
-        (decode n words ++ sentTo (record { sender = i; recipient = 0; round = k; kind = 0; signers = own; sent = record { 0 = time } }) 12 to)
-        → w ≡ after (canSend n words (record { sender = i; recipient = 0; round = k; kind = 0; signers = own; sent = record { 0 = time } }) 12 to) words
-        (decode n words ++ sentTo (record { sender = i; recipient = 0; round = k; kind = 0; signers = own; sent = record { 0 = time } }) 12 to)
+        → a ≡ answer (canSend n words ready 12 to) n (decode n words ++ sentTo ready 12 to)
+        → w ≡ after (canSend n words ready 12 to) words (decode n words ++ sentTo ready 12 to)
         → b ≡ answer (canSend (a .count) w (relayOf time i k (o .relay)) 12 more) (a .count)
         (decode (a .count) w ++ sentTo (relayOf time i k (o .relay)) 12 more)
         → x ≡ after (canSend (a .count) w (relayOf time i k (o .relay)) 12 more) w
         (decode (a .count) w ++ sentTo (relayOf time i k (o .relay)) 12 more)
+        → ready ≡ readyOf time i k
         → (b .count ≡ n + sentBy plan i o) × (x ≡ coded words (decode n words ++ sends plan time i k o))
-    both-sends own to more a b w x eo et em ea ew eb ex =
+    both-sends ready to more a b w x et em ea ew eb ex er =
         let can = first-can in
-        let fa : a ≡ record { done = true; count = length standing } = rw (eo, et, can) at ea in
-        let fw : w ≡ coded words standing = rw (eo, et, can) at ew in
+        let fa : a ≡ record { done = true; count = length standing } = rw (er, et, can) at ea in
+        let fw : w ≡ coded words standing = rw (er, et, can) at ew in
         let go = second-can in
         let fb : b ≡ record { done = true; count = length (decode (length standing) (coded words standing) ++ relays) } =
         rw (em, fa, fw, go) at eb in

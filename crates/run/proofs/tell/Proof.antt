@@ -1,10 +1,7 @@
 -- `run::tell` sends a ready and a relay, each to a mask: after both the words hold what the station sends behind the others.
 -- Assumes nothing.
-use mathlib.Core.Path.{_≡_, sym, _∙_}
+use mathlib.Core.Path.{_∙_}
 use denote.Ref.{now}
-use lib.ListN.{length}
-use native.Mathlib.Omega.{arith}
-use Rattle.mask.specs.Mask.{only}
 use Rattle.run.specs.Sends.{sends-none, both-sends}
 use borrow.Author.Needs.{needs}
 use Rattle.run.proofs.tell.Statement.{statement}
@@ -41,9 +38,9 @@ returns-2 c =
     let a = c .before .before .before .before .before .before .before .before .before .before .before .before .before .before .before .before .before .args in
     let to = c .before .before .before .before .before .before .before .before .before .before .before .before .others .ensures in
     both-sends (a .plan) (a .time .0) (a .i) (a .round) (a .o) (now (a .words)) (a .count) (c .before .before .before .before .before .before .before .before .before .before .before .before .before .before .before .before .before .pre)
-    (λ j. c .before .before .before .before .before .before .before .before .before .before .before .before .before .before .before .before .slice-known .given j .fits) (search needs) _ _ _ _ _ _ _ (c .before .before .before .before .before .before .before .before .before .before .before .only .ensures)
+    (λ j. c .before .before .before .before .before .before .before .before .before .before .before .before .before .before .before .before .slice-known .given j .fits) (search needs) _ _ _ _ _ _ _
     (c .before .before .before .before .before .before .before .before .before .part .ensures ∙ rw to) (c .before .before .before .part2 .ensures ∙ rw to) (c .before .before .before .before .before .before .before .before .send .ensures .0) (c .before .before .before .before .before .before .before .before .send .ensures .1)
-    (c .before .before .send2 .ensures .0) (c .before .before .send2 .ensures .1)
+    (c .before .before .send2 .ensures .0) (c .before .before .send2 .ensures .1) (rw (c .before .before .before .before .before .before .before .before .before .before .before .only .ensures))
 
 pub tell-spec : {M : Type 1} → statement M
 tell-spec =
