@@ -1,4 +1,4 @@
--- Laws of the lines: how long their parts are, and what one more digit in front makes of the buffer.
+-- Laws of the lines: how long their parts are, and what one more digit in front or one more piece behind makes of the buffer.
 use Prim.Native.Nat.{ℕ, zero, suc, _+_, _*_, _-_, _/_, _%_, _^_, _<_, _≤_}
 use mathlib.Core.Bool.{Bool, true, false}
 use mathlib.Core.List.{List, [], _∷_, _++_, append-assoc}
@@ -17,7 +17,7 @@ use Rattle.number.specs.Laws.{laid-none, laid-on, length-laid}
 use Rattle.mask.specs.Mask.{has}
 use Rattle.line.specs.declared.Line.{Line}
 use Rattle.line.specs.Run.{Run, stationAt}
-use Rattle.text.specs.Text.{placesFrom, places, lastDigits, decimal, single, spaced, roundOf, roundsTo, eventLine, roomy, fits}
+use Rattle.text.specs.Text.{placesFrom, places, lastDigits, decimal, spaced, roundOf, roundsTo, roomy, fits}
 
 -- as many digits as asked for
 pub length-digits : (k x : ℕ) → length (lastDigits k x) ≡ k
@@ -191,16 +191,51 @@ pub places-few : (x : ℕ) → places x ≤ 20
 unfolding places
 places-few x = places-most 19 x .1
 
--- ---- one part behind another
+-- ---- one piece behind another
 
 -- what is laid behind what was laid is both laid
 pub laid-both : (out : List ℕ) (at : ℕ) (a b : List ℕ) {w v : List ℕ} {next : ℕ} → at + length a ≤ length out → w ≡ laid out at a → next ≡ at + length a
     → v ≡ laid w next b → v ≡ laid out at (a ++ b)
 laid-both out at a b h e n f = f ∙ rw (e, n) (laid-on out at a h b)
 
+-- these bytes are written from `at` on, the next go to `next`, and there is room for `left` more
+pub record Written (out : List ℕ) (at : ℕ) (bytes : List ℕ) (left : ℕ) (w : List ℕ) (next : ℕ) : Type 0 where
+  pub place : next ≡ at + length bytes
+  pub same : w ≡ laid out at bytes
+  pub long : length w ≡ length out
+  pub room : next + left ≤ length w
+
+-- nothing yet
+pub written-none : (out : List ℕ) (at left : ℕ) → at + left ≤ length out → Written out at [] left out at
+written-none out at left h = record { place = omega arith; same = sym (laid-none out at); long = refl; room = h }
+
+-- one piece more
+pub written-more : {out : List ℕ} {at : ℕ} {bytes : List ℕ} {before : ℕ} {w : List ℕ} {next : ℕ} → Written out at bytes before w next
+    → (piece : List ℕ) (left : ℕ) → length piece + left ≤ before → {v : List ℕ} {n : ℕ} → n ≡ next + length piece → v ≡ laid w next piece
+    → Written out at (bytes ++ piece) left v n
+written-more {out} {at} {bytes} h piece left most {v} {n} e f =
+    let len = length-append bytes piece in
+    let same = laid-both out at bytes piece (omega arith) (h .same) (h .place) f in
+    let long = ap length same ∙ length-laid out at (bytes ++ piece) (omega arith) in
+    record { place = omega arith; same = same; long = long; room = omega arith }
+
 pub length-spaced : (x : ℕ) → length (spaced x) ≡ places x + 1
 unfolding spaced
 length-spaced x = omega (arith, length-decimal x)
+
+-- a number in front
+pub written-decimal : (out : List ℕ) (at x left : ℕ) → at + (20 + left) ≤ length out → {v : List ℕ} {n : ℕ} → n ≡ at + places x
+    → v ≡ laid out at (decimal x) → Written out at (decimal x) left v n
+written-decimal out at x left h e f =
+    written-more (written-none out at (20 + left) h) (decimal x) left (omega (arith, length-decimal x, places-few x))
+    (e ∙ omega (arith, length-decimal x)) f
+
+-- a space and a number behind
+pub written-spaced : {out : List ℕ} {at : ℕ} {bytes : List ℕ} {before : ℕ} {w : List ℕ} {next : ℕ} → Written out at bytes before w next
+    → (x left : ℕ) → 21 + left ≤ before → {v : List ℕ} {n : ℕ} → n ≡ next + (places x + 1) → v ≡ laid w next (spaced x)
+    → Written out at (bytes ++ spaced x) left v n
+written-spaced h x left most e f =
+    written-more h (spaced x) left (omega (arith, length-spaced x, places-few x)) (e ∙ omega (arith, length-spaced x)) f
 
 -- a round takes 21 bytes at most
 pub round-most : (r : Run) (i : ℕ) → length (roundOf r i) ≤ 21
@@ -216,92 +251,23 @@ unfolding roundsTo
 rounds-most r zero = omega arith
 rounds-most r (suc k) = omega (arith, length-append (roundsTo r k) (roundOf r k), rounds-most r k, round-most r k)
 
--- before the first round, and after one more
-pub rounds-start : (r : Run) (out : List ℕ) (at : ℕ) → (at ≡ at + length (roundsTo r 0)) × (out ≡ laid out at (roundsTo r 0))
-unfolding roundsTo
-rounds-start r out at = (omega arith, sym (laid-none out at))
+-- the rounds of at most twelve stations behind
+pub written-rounds : {out : List ℕ} {at : ℕ} {bytes : List ℕ} {before : ℕ} {w : List ℕ} {next : ℕ} → Written out at bytes before w next
+    → (r : Run) (k left : ℕ) → k ≤ 12 → 252 + left ≤ before → {v : List ℕ} {n : ℕ} → n ≡ next + length (roundsTo r k)
+    → v ≡ laid w next (roundsTo r k) → Written out at (bytes ++ roundsTo r k) left v n
+written-rounds h r k left few most e f = written-more h (roundsTo r k) left (omega (arith, rounds-most r k)) e f
 
-pub rounds-next : (r : Run) (out : List ℕ) (at i : ℕ) {w v : List ℕ} {next n : ℕ} → at + 21 * (i + 1) ≤ length out
-    → next ≡ at + length (roundsTo r i) → w ≡ laid out at (roundsTo r i) → n ≡ next + length (roundOf r i) → v ≡ laid w next (roundOf r i)
-    → (n ≡ at + length (roundsTo r (i + 1))) × (v ≡ laid out at (roundsTo r (i + 1))) × (length v ≡ length out)
-unfolding roundsTo
-rounds-next r out at i {w} {v} {next} {n} room e f g h =
-    let most = rounds-most r i in
-    let one = round-most r i in
-    let both : v ≡ laid out at (roundsTo r i ++ roundOf r i) = laid-both out at (roundsTo r i) (roundOf r i) (omega arith) f e h in
-    let len = length-append (roundsTo r i) (roundOf r i) in
-    rw (add-one i) (g ∙ omega (arith, e, len), both, ap length both ∙ length-laid out at (roundsTo r i ++ roundOf r i) (omega (arith, len)))
+module _ (r : Run) (out : List ℕ) (at : ℕ) where
+  -- before the first round
+  pub rounds-start : at + 252 ≤ length out → Written out at (roundsTo r 0) 252 out at
+  unfolding roundsTo
+  rounds-start h = written-none out at 252 h
 
--- behind what is laid there is room for k more, where there was room for it and k
-pub room-left : (out : List ℕ) (at : ℕ) (a : List ℕ) (k : ℕ) {w : List ℕ} {next : ℕ} → at + length a + k ≤ length out → w ≡ laid out at a
-    → next ≡ at + length a → next + k ≤ length w
-room-left out at a k h e n = omega (arith, ap length e, length-laid out at a (omega arith), n)
-
-one-length : (number : ℕ) → length (decimal number) ≤ 20
-one-length number = omega (arith, length-decimal number, places-few number)
-
-two-length : (number answer : ℕ) → length (decimal number ++ spaced answer) ≤ 41
-two-length number answer =
-    omega (arith, length-append (decimal number) (spaced answer), one-length number, length-spaced answer, places-few answer)
-
-three-length : (number answer time : ℕ) → length (decimal number ++ spaced answer ++ spaced time) ≤ 62
-three-length number answer time =
-    omega (arith, length-append (decimal number ++ spaced answer) (spaced time), two-length number answer, length-spaced time, places-few time)
-
-module _ (out : List ℕ) (at number answer : ℕ) (r : Run) (room : at + 320 ≤ length out) (few : r .plan .stations ≤ 12)
-    {w₁ : List ℕ} {n₁ : ℕ} (l₁ : n₁ ≡ at + places number) (e₁ : w₁ ≡ laid out at (decimal number)) where
-  pub after-number : (n₁ ≡ at + length (decimal number)) × (n₁ + 21 ≤ length w₁)
-  after-number =
-      let n : n₁ ≡ at + length (decimal number) = omega (arith, l₁, length-decimal number) in
-      (n, room-left out at (decimal number) 21 (omega (arith, one-length number)) e₁ n)
-
-  module _ {w₂ : List ℕ} {n₂ : ℕ} (l₂ : n₂ ≡ n₁ + (places answer + 1)) (e₂ : w₂ ≡ laid w₁ n₁ (spaced answer)) where
-    pub after-answer : (n₂ ≡ at + length (decimal number ++ spaced answer)) × (n₂ + 21 ≤ length w₂) × (w₂ ≡ laid out at (decimal number ++ spaced answer))
-    after-answer =
-        let n : n₂ ≡ at + length (decimal number ++ spaced answer) =
-        l₂ ∙ omega (arith, after-number .0, length-append (decimal number) (spaced answer), length-spaced answer) in
-        let w = laid-both out at (decimal number) (spaced answer) (omega (arith, one-length number)) e₁ (after-number .0) e₂ in
-        (n, room-left out at (decimal number ++ spaced answer) 21 (omega (arith, two-length number answer)) w n, w)
-
-    module _ {w₃ : List ℕ} {n₃ : ℕ} (l₃ : n₃ ≡ n₂ + (places (r .time) + 1)) (e₃ : w₃ ≡ laid w₂ n₂ (spaced (r .time))) where
-      pub after-time : (n₃ ≡ at + length (decimal number ++ spaced answer ++ spaced (r .time))) × (n₃ + 252 ≤ length w₃)
-          × (w₃ ≡ laid out at (decimal number ++ spaced answer ++ spaced (r .time)))
-      after-time =
-          let n : n₃ ≡ at + length (decimal number ++ spaced answer ++ spaced (r .time)) =
-          l₃ ∙ omega (arith, after-answer .0, length-append (decimal number ++ spaced answer) (spaced (r .time)), length-spaced (r .time)) in
-          let w = laid-both out at (decimal number ++ spaced answer) (spaced (r .time)) (omega (arith, two-length number answer)) (after-answer .2) (after-answer .0) e₃ in
-          (n, room-left out at (decimal number ++ spaced answer ++ spaced (r .time)) 252 (omega (arith, three-length number answer (r .time))) w n, w)
-
-      module _ {w₄ : List ℕ} {n₄ : ℕ} (l₄ : n₄ ≡ n₃ + length (roundsTo r (r .plan .stations))) (e₄ : w₄ ≡ laid w₃ n₃ (roundsTo r (r .plan .stations))) where
-        abbrev four : List ℕ
-        four = decimal number ++ spaced answer ++ spaced (r .time) ++ roundsTo r (r .plan .stations)
-
-        four-length : length four ≤ 314
-        four-length =
-            omega (
-              arith,
-              length-append (decimal number ++ spaced answer ++ spaced (r .time)) (roundsTo r (r .plan .stations)),
-              three-length number answer (r .time),
-              rounds-most r (r .plan .stations),
-            )
-
-        pub after-rounds : (n₄ ≡ at + length four) × (n₄ + 1 ≤ length w₄) × (w₄ ≡ laid out at four)
-        after-rounds =
-            let n : n₄ ≡ at + length four =
-            l₄ ∙ omega (arith, after-time .0, length-append (decimal number ++ spaced answer ++ spaced (r .time)) (roundsTo r (r .plan .stations))) in
-            let w =
-            laid-both out at (decimal number ++ spaced answer ++ spaced (r .time)) (roundsTo r (r .plan .stations)) (omega (arith, three-length number answer (r .time)))
-            (after-time .2) (after-time .0) e₄ in
-            (n, room-left out at four 1 (omega (arith, four-length)) w n, w)
-
-        -- the whole line
-        pub after-line : {w : List ℕ} {n : ℕ} → n ≡ n₄ + 1 → w ≡ laid w₄ n₄ (single 10)
-            → (n ≡ at + length (eventLine number answer r)) × (w ≡ laid out at (eventLine number answer r))
-        unfolding eventLine
-        after-line l e = (
-          l ∙ omega (arith, after-rounds .0, length-append four (single 10)),
-          laid-both out at four (single 10) (omega (arith, four-length)) (after-rounds .2) (after-rounds .0) e,
-        )
+  -- and after one more
+  pub rounds-next : (i : ℕ) → i < 12 → {w v : List ℕ} {next n : ℕ} → Written out at (roundsTo r i) (21 * (12 - i)) w next
+      → n ≡ next + length (roundOf r i) → v ≡ laid w next (roundOf r i) → Written out at (roundsTo r (i + 1)) (21 * (12 - (i + 1))) v n
+  unfolding roundsTo
+  rounds-next i b h e f = rw (add-one i) (written-more h (roundOf r i) (21 * (12 - suc i)) (omega (arith, round-most r i)) e f)
 
 -- ---- where there is no room
 

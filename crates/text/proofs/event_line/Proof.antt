@@ -1,11 +1,11 @@
 -- `text::event_line` lays the parts of a line one behind the other, where there is room. Assumes nothing.
 use mathlib.Core.List.{[]}
-use mathlib.Core.Path.{_≡_, refl, _∙_}
+use mathlib.Core.Path.{refl}
 use native.Mathlib.Omega.{arith}
 use denote.Ref.{now}
 use Rattle.line.specs.Held.{runOf}
-use Rattle.text.specs.Text.{eventLine}
-use Rattle.text.specs.Laws.{fits-not, fits-short, fits-well, after-number, after-answer, after-time, after-rounds, after-line}
+use Rattle.text.specs.Text.{single, eventLine}
+use Rattle.text.specs.Laws.{written-more, written-decimal, written-spaced, written-rounds, fits-not, fits-short, fits-well}
 use borrow.Author.Needs.{needs}
 use Rattle.text.proofs.event_line.Statement.{statement}
 use Rattle.text.proofs.event_line.Tie as tie
@@ -26,58 +26,64 @@ put-decimal-requires : tie.Need-put-decimal-requires
 put-decimal-requires c κs = search needs
 
 put-spaced-requires : tie.Need-put-spaced-requires
-unfolding runOf
 put-spaced-requires c κs =
     let a = c .before .before .before .before .before .before .before .before .before .before .args in
     let one = c .before .before .before .put-decimal .ensures in
-    after-number (now (a .out)) (a .at) (a .number) (a .answer) (runOf (a .l) []) (omega arith) (c .before .before .before .before .before .before .before .if1 .left) (one .0) (one .1) .1
+    let w₁ = written-decimal (now (a .out)) (a .at) (a .number) 300 (omega arith) (one .0) (one .1) in
+    omega (arith, w₁ .room)
 
 put-spaced-requires-2 : tie.Need-put-spaced-requires-2
-unfolding runOf
 put-spaced-requires-2 c κs =
     let a = c .before .before .before .before .before .before .before .before .before .before .before .before .before .before .args in
     let one = c .before .before .before .before .before .before .before .put-decimal .ensures in
+    let w₁ = written-decimal (now (a .out)) (a .at) (a .number) 300 (omega arith) (one .0) (one .1) in
     let two = c .before .before .before .put-spaced .ensures in
-    after-answer (now (a .out)) (a .at) (a .number) (a .answer) (runOf (a .l) []) (omega arith) (c .before .before .before .before .before .before .before .before .before .before .before .if1 .left) (one .0) (one .1) (two .0) (two .1) .1
+    let w₂ = written-spaced w₁ (a .answer) 279 (omega arith) (two .0) (two .1) in
+    omega (arith, w₂ .room)
 
 put-rounds-requires : tie.Need-put-rounds-requires
-unfolding runOf
 put-rounds-requires c κs =
     let a = c .before .before .before .before .before .before .before .before .before .before .before .before .before .before .before .before .before .before .args in
     let one = c .before .before .before .before .before .before .before .before .before .before .before .put-decimal .ensures in
+    let w₁ = written-decimal (now (a .out)) (a .at) (a .number) 300 (omega arith) (one .0) (one .1) in
     let two = c .before .before .before .before .before .before .before .put-spaced .ensures in
-    let three = c .before .before .before .put-spaced2 .ensures in (
-      c .before .before .before .before .before .before .before .before .before .before .before .before .before .before .before .if1 .left,
-      after-time (now (a .out)) (a .at) (a .number) (a .answer) (runOf (a .l) []) (omega arith) (c .before .before .before .before .before .before .before .before .before .before .before .before .before .before .before .if1 .left) (one .0) (one .1) (two .0)
-          (two .1) (three .0) (three .1) .1,
-    )
+    let w₂ = written-spaced w₁ (a .answer) 279 (omega arith) (two .0) (two .1) in
+    let three = c .before .before .before .put-spaced2 .ensures in
+    let w₃ = written-spaced w₂ (a .l .time .0) 258 (omega arith) (three .0) (three .1) in
+    (c .before .before .before .before .before .before .before .before .before .before .before .before .before .before .before .if1 .left, omega (arith, w₃ .room))
 
 put-byte-requires : tie.Need-put-byte-requires
 unfolding runOf
 put-byte-requires c κs =
     let a = c .before .before .before .before .before .before .before .before .before .before .before .before .before .before .before .before .before .before .before .before .before .before .args in
     let one = c .before .before .before .before .before .before .before .before .before .before .before .before .before .before .before .put-decimal .ensures in
+    let w₁ = written-decimal (now (a .out)) (a .at) (a .number) 300 (omega arith) (one .0) (one .1) in
     let two = c .before .before .before .before .before .before .before .before .before .before .before .put-spaced .ensures in
+    let w₂ = written-spaced w₁ (a .answer) 279 (omega arith) (two .0) (two .1) in
     let three = c .before .before .before .before .before .before .before .put-spaced2 .ensures in
+    let w₃ = written-spaced w₂ (a .l .time .0) 258 (omega arith) (three .0) (three .1) in
     let four = c .before .before .before .put-rounds .ensures in
-    after-rounds (now (a .out)) (a .at) (a .number) (a .answer) (runOf (a .l) []) (omega arith) (c .before .before .before .before .before .before .before .before .before .before .before .before .before .before .before .before .before .before .before .if1 .left) (one .0) (one .1) (two .0) (two .1)
-    (three .0) (three .1) (four .0) (four .1) .1
+    let w₄ = written-rounds w₃ (runOf (a .l) []) (a .l .plan .stations) 6 (c .before .before .before .before .before .before .before .before .before .before .before .before .before .before .before .before .before .before .before .if1 .left) (omega arith) (four .0) (four .1) in
+    omega (arith, w₄ .room)
 
 same-length : tie.Need-same-length
 same-length c = search needs
 
 returns-4 : tie.Need-returns-4
-unfolding runOf
+unfolding runOf eventLine
 returns-4 c =
     let a = c .before .before .before .before .before .before .before .before .before .before .before .before .before .before .before .before .before .before .before .before .before .before .before .before .before .args in
     let one = c .before .before .before .before .before .before .before .before .before .before .before .before .before .before .before .before .before .before .put-decimal .ensures in
+    let w₁ = written-decimal (now (a .out)) (a .at) (a .number) 300 (omega arith) (one .0) (one .1) in
     let two = c .before .before .before .before .before .before .before .before .before .before .before .before .before .before .put-spaced .ensures in
+    let w₂ = written-spaced w₁ (a .answer) 279 (omega arith) (two .0) (two .1) in
     let three = c .before .before .before .before .before .before .before .before .before .before .put-spaced2 .ensures in
+    let w₃ = written-spaced w₂ (a .l .time .0) 258 (omega arith) (three .0) (three .1) in
     let four = c .before .before .before .before .before .before .put-rounds .ensures in
+    let w₄ = written-rounds w₃ (runOf (a .l) []) (a .l .plan .stations) 6 (c .before .before .before .before .before .before .before .before .before .before .before .before .before .before .before .before .before .before .before .before .before .before .if1 .left) (omega arith) (four .0) (four .1) in
     let five = c .before .before .put-byte .ensures in
-    rw (fits-well (a .l) (now (a .out)) (a .at) (c .before .before .before .before .before .before .before .before .before .before .before .before .before .before .before .before .before .before .before .before .before .before .if1 .left) (omega arith))
-    (after-line (now (a .out)) (a .at) (a .number) (a .answer) (runOf (a .l) []) (omega arith) (c .before .before .before .before .before .before .before .before .before .before .before .before .before .before .before .before .before .before .before .before .before .before .if1 .left) (one .0) (one .1) (two .0) (two .1)
-    (three .0) (three .1) (four .0) (four .1) (five .0) (five .1))
+    let w = written-more w₄ (single 10) 5 (omega arith) (five .0) (five .1) in
+    rw (fits-well (a .l) (now (a .out)) (a .at) (c .before .before .before .before .before .before .before .before .before .before .before .before .before .before .before .before .before .before .before .before .before .before .if1 .left) (omega arith)) (w .place, w .same)
 
 pub event-line-spec : {M : Type 1} → statement M
 event-line-spec =
