@@ -1,5 +1,5 @@
 -- The order of the refusals 12 to 19 as facts: a number is answered where its test holds and the tests before it in document
--- 01's list fail, whatever the tests behind it say.
+-- 01's list fail, whatever the tests behind it say. Each is the table computed as far as that test.
 use Prim.Native.Nat.{ℕ, _+_}
 use mathlib.Core.Bool.{true, false, _||_, not}
 use mathlib.Core.List.{List}

@@ -28,6 +28,7 @@ use Rattle.line.specs.declared.Line.{Line}
 use Rattle.line.specs.Run.{Run, sound, noStation, stationAt, sends, moves, signTo}
 use Rattle.line.specs.Record.{someStation}
 use Rattle.line.specs.Event.{effect, exceedsAt, driftsAt, passesAt, full, eventRules}
+use Rattle.line.specs.Order.{twelve}
 use Rattle.line.specs.Held.{stationOf, runOf}
 use Rattle.line.specs.HeldLaws.{first-length}
 use Rattle.line.specs.Moves.{advanceAt, advanceSends, Signed, signed-to}
@@ -285,20 +286,17 @@ module _ (l : Line) (words : List ℕ) (d : ℕ) (increments : List ℕ) (h : He
     advance-rules m late sent em el es =
         let room : leb (3 * l .count) (length words) ≡ true = le-leb (3 * l .count) (length words) (omega (arith, h .room, held-count h)) in
         let soon : late ≡ overdue (l .time .0 + d) (l .plan .bound) (decode (l .count) words) = el ∙ rw (room, exact) refl in
-        rw (em, soon, es, exact, ← turned-count)
-        (go (ltb maxTime (l .time .0 + d)) (someStation (exceedsAt (runOf l []) increments) (l .plan .stations)) refl
-        (someStation (driftsAt (runOf l []) d increments) (l .plan .stations))
-        (refuse (overdue (l .time .0 + d) (l .plan .bound) (decode (l .count) words)) 15
-        (refuse (ltb maxFlight (l .count + sentTo l increments (l .plan .stations))) 19 0)))
+        rw (em, soon, es, exact)
+        (go (ltb maxTime (l .time .0 + d) || someStation (exceedsAt (runOf l []) increments) (l .plan .stations)) refl)
       where
-        go : (late some : Bool) → someStation (exceedsAt (runOf l []) increments) (l .plan .stations) ≡ some → (drifts : Bool) (rest : ℕ)
-            → refuse (late || some) 12
-            (refuse drifts 13 (refuse (someStation (passesAt (runOf l []) increments) (l .plan .stations)) 14 rest))
-            ≡ refuse (late || some) 12
-            (refuse drifts 13 (refuse (someStation (blockedAt l increments) (l .plan .stations)) 14 rest))
-        go true some e drifts rest = refl
-        go false true e drifts rest = refl
-        go false false e drifts rest = rw (blocked-some l increments (l .plan .stations) e) refl
+        go : (over : Bool) → (ltb maxTime (l .time .0 + d) || someStation (exceedsAt (runOf l []) increments) (l .plan .stations)) ≡ over
+            → eventRules (runOf l words) (Advance d) increments
+            ≡ asked l (l .time .0 + d) (meetsTo l d increments (l .plan .stations))
+            (overdue (l .time .0 + d) (l .plan .bound) (decode (l .count) words)) (sentTo l increments (l .plan .stations))
+        go true e = twelve (runOf l words) d increments e ∙ rw e refl
+        go false e =
+            let n = neither (ltb maxTime (l .time .0 + d)) (someStation (exceedsAt (runOf l []) increments) (l .plan .stations)) e in
+            rw (← turned-count, blocked-some l increments (l .plan .stations) (n .1)) refl
 
     -- the run and the words after an advance that is accepted
     pub advance-comes : eventRules (runOf l words) (Advance d) increments ≡ 0 → (stations : List Station) (count : ℕ) (v : List ℕ)
