@@ -105,6 +105,23 @@ fn copy(bytes: &[u8], count: usize, out: &mut [u8], at: usize)
     }
 }
 
+// Writes bytes as they are at a place of the buffer: how many, or 25 where it is too short and nothing is written.
+pub fn write_bytes(bytes: &[u8], out: &mut [u8], at: usize) -> Written
+    ensures { λ r. ⌜ r ≡ form.wrote (now (out .entry)) at (now (bytes .entry)) ⌝ }
+    ensures { λ r. ⌜ now (out .exit) ≡ form.buffer (now (out .entry)) at (now (bytes .entry)) ⌝ }
+{
+    let space = out.len();
+    let count = bytes.len();
+    if space < at {
+        return Written::Refused(25);
+    }
+    if space - at < count {
+        return Written::Refused(25);
+    }
+    copy(bytes, count, out, at);
+    Written::Bytes(count)
+}
+
 // Writes a number at a place that has room for it, and answers the place behind it.
 fn put_number(v: u64, out: &mut [u8], at: usize) -> usize
     requires { ⌜ at + length (form.numberBytes v) ≤ length (now out) ⌝ }
