@@ -16,8 +16,11 @@ use Rattle.number.specs.Number.{laid}
 use Rattle.number.specs.Laws.{laid-none, laid-on, length-laid}
 use Rattle.mask.specs.Mask.{has}
 use Rattle.line.specs.declared.Line.{Line}
-use Rattle.line.specs.Run.{Run, stationAt}
-use Rattle.text.specs.Text.{placesFrom, places, lastDigits, decimal, spaced, roundOf, roundsTo, roomy, fits}
+use Rattle.line.specs.Run.{Run, noStation, stationAt}
+use Rattle.line.specs.Held.{runOf}
+use Rattle.line.specs.HeldLaws.{place-some}
+use Rattle.station.specs.declared.Station.{Station}
+use Rattle.text.specs.Text.{placesFrom, places, lastDigits, decimal, single, spaced, roundOf, roundsTo, roomy, fits}
 
 -- as many digits as asked for
 pub length-digits : (k x : ℕ) → length (lastDigits k x) ≡ k
@@ -191,6 +194,14 @@ pub places-few : (x : ℕ) → places x ≤ 20
 unfolding places
 places-few x = places-most 19 x .1
 
+-- one digit
+pub one-digit : (x : ℕ) → x < 10 → (places x ≡ 1) × (decimal x ≡ single (48 + x))
+unfolding places decimal lastDigits
+one-digit x h =
+    let p : placesFrom 19 x ≡ 1 = places-low 18 x h in
+    let d : x / 1 % 10 ≡ x = omega arith in
+    (p, rw (p, d) refl)
+
 -- ---- one piece behind another
 
 -- what is laid behind what was laid is both laid
@@ -236,6 +247,17 @@ pub written-spaced : {out : List ℕ} {at : ℕ} {bytes : List ℕ} {before : �
     → Written out at (bytes ++ spaced x) left v n
 written-spaced h x left most e f =
     written-more h (spaced x) left (omega (arith, length-spaced x, places-few x)) (e ∙ omega (arith, length-spaced x)) f
+
+-- a space and a round, `-` where the mask has its station
+abbrev pub shownRound : ℕ → ℕ → ℕ → List ℕ
+shownRound faulty i round = pick (has faulty i) (32 ∷ 45 ∷ []) (spaced round)
+
+-- for station i of the line it is read off its place in the table
+pub round-shown : (l : Line) (i : ℕ) (s : Station) → i < l .plan .stations → s ≡ getD (l .stations) i noStation
+    → shownRound (l .plan .faulty) i (s .round) ≡ roundOf (runOf l []) i
+unfolding roundOf runOf
+round-shown l i s h e =
+    ap (λ (x : Station). shownRound (l .plan .faulty) i (x .round)) (e ∙ place-some (l .plan .stations) (l .stations) i h)
 
 -- a round takes 21 bytes at most
 pub round-most : (r : Run) (i : ℕ) → length (roundOf r i) ≤ 21

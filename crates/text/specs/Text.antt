@@ -52,13 +52,17 @@ roundsTo r (suc k) = roundsTo r k ++ roundOf r k
 unfoldable pub eventLine : ℕ → ℕ → Run → List ℕ
 eventLine number answer r = decimal number ++ spaced answer ++ spaced (r .time) ++ roundsTo r (r .plan .stations) ++ single 10
 
+-- a word and a number
+unfoldable pub told : List ℕ → ℕ → List ℕ
+told word number = word ++ spaced number ++ single 10
+
 -- `setup` and its answer
 unfoldable pub setupLine : ℕ → List ℕ
-setupLine answer = 115 ∷ 101 ∷ 116 ∷ 117 ∷ 112 ∷ spaced answer ++ single 10
+setupLine answer = told (115 ∷ 101 ∷ 116 ∷ 117 ∷ 112 ∷ []) answer
 
 -- `script` and the number
 unfoldable pub scriptLine : ℕ → List ℕ
-scriptLine number = 115 ∷ 99 ∷ 114 ∷ 105 ∷ 112 ∷ 116 ∷ spaced number ++ single 10
+scriptLine number = told (115 ∷ 99 ∷ 114 ∷ 105 ∷ 112 ∷ 116 ∷ []) number
 
 -- ---- in a buffer
 

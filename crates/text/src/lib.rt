@@ -2,16 +2,28 @@
 // buffer has no room for the longest line, nothing is written and the place is as it was.
 ghost use mathlib.Core.Path.{_≡_};
 ghost use Prim.Native.Nat.{_+_, _≤_};
+ghost use lib.IntN.{natAbs};
 ghost use lib.ListN.{length};
 ghost use Rattle.clock.specs.Pick.{pick};
 ghost use Rattle.number.specs.Number.{laid};
 ghost use Rattle.line.specs.Held.{runOf};
 ghost use mathlib.Core.List.{[]};
 ghost use Rattle.text.specs.Text as text;
+ghost use Rattle.text.specs.Laws.{shownRound};
 use line::Line;
 
 // Room for the longest line.
 pub const LONGEST: usize = 320;
+
+// A number without its sign.
+pub fn magnitude(x: i64) -> u64
+    ensures { λ r. ⌜ r ≡ natAbs x ⌝ }
+{
+    if x < 0 {
+        return (-1 - x) as u64 + 1;
+    }
+    x as u64
+}
 
 // How many decimal digits a number has.
 fn places(x: u64) -> usize
@@ -42,6 +54,10 @@ fn put_decimal(x: u64, out: &mut [u8], at: usize) -> usize
     ensures { λ r. ⌜ r ≡ at + text.places x ⌝ }
     ensures { λ _. ⌜ now (out .exit) ≡ laid (now (out .entry)) at (text.decimal x) ⌝ }
 {
+    if x < 10 {
+        out[at] = 48 + x as u8;
+        return at + 1;
+    }
     let count = places(x);
     let mut rest = x;
     let mut left = count;
@@ -64,17 +80,16 @@ fn put_spaced(x: u64, out: &mut [u8], at: usize) -> usize
 }
 
 // A space and the round of station i, `-` if it is faulty.
-fn put_round(l: Line, i: u64, out: &mut [u8], at: usize) -> usize
-    requires { ⌜ l .plan .stations ≤ 12 ⌝ }
+fn put_round(faulty: u64, i: u64, round: u64, out: &mut [u8], at: usize) -> usize
     requires { ⌜ at + 21 ≤ length (now out) ⌝ }
-    ensures { λ r. ⌜ r ≡ at + length (text.roundOf (runOf l []) i) ⌝ }
-    ensures { λ _. ⌜ now (out .exit) ≡ laid (now (out .entry)) at (text.roundOf (runOf l []) i) ⌝ }
+    ensures { λ r. ⌜ r ≡ at + length (shownRound faulty i round) ⌝ }
+    ensures { λ _. ⌜ now (out .exit) ≡ laid (now (out .entry)) at (shownRound faulty i round) ⌝ }
 {
-    if mask::has(l.plan.faulty, i) {
+    if mask::has(faulty, i) {
         let next = put_byte(32, out, at);
         return put_byte(45, out, next);
     }
-    put_spaced(line::station(l, i).round, out, at)
+    put_spaced(round, out, at)
 }
 
 // Of each station.
@@ -87,7 +102,8 @@ fn put_rounds(l: Line, out: &mut [u8], at: usize) -> usize
     let mut next = at;
     let mut i: u64 = 0;
     while i < l.plan.stations {
-        next = put_round(l, i, out, next);
+        let s = l.stations[i as usize];
+        next = put_round(l.plan.faulty, i, s.round, out, next);
         i += 1;
     }
     next
@@ -116,4 +132,63 @@ pub fn event_line(number: u64, answer: u64, l: Line, out: &mut [u8], at: usize) 
     next = put_spaced(l.time.0, out, next);
     next = put_rounds(l, out, next);
     put_byte(10, out, next)
+}
+
+// The bytes of a word.
+fn put_word(word: &[u8], out: &mut [u8], at: usize) -> usize
+    requires { ⌜ at + length (now word) ≤ length (now out) ⌝ }
+    ensures { λ r. ⌜ r ≡ at + length (now (word .entry)) ⌝ }
+    ensures { λ _. ⌜ now (out .exit) ≡ laid (now (out .entry)) at (now (word .entry)) ⌝ }
+{
+    number::write_bytes(word, out, at);
+    at + word.len()
+}
+
+// Whether the buffer has room for the longest line from a place on.
+pub fn roomy(out: &[u8], at: usize) -> bool
+    ensures { λ r. ⌜ r ≡ text.roomy (now (out .entry)) at ⌝ }
+{
+    if out.len() < LONGEST {
+        return false;
+    }
+    at <= out.len() - LONGEST
+}
+
+// A short word and a number.
+fn told_line(word: &[u8], number: u64, out: &mut [u8], at: usize) -> usize
+    requires { ⌜ length (now word) ≤ 6 ⌝ }
+    ensures { λ r. ⌜ r ≡ text.behind (text.roomy (now (out .entry)) at) at (text.told (now (word .entry)) number) ⌝ }
+    ensures { λ _.
+        ⌜
+        now (out .exit) ≡ text.printed (text.roomy (now (out .entry)) at) (now (out .entry)) at (text.told (now (word .entry)) number)
+        ⌝ }
+{
+    if !roomy(out, at) {
+        return at;
+    }
+    let mut next = put_word(word, out, at);
+    next = put_spaced(number, out, next);
+    put_byte(10, out, next)
+}
+
+// `setup` and its answer.
+pub fn setup_line(answer: u64, out: &mut [u8], at: usize) -> usize
+    ensures { λ r. ⌜ r ≡ text.behind (text.roomy (now (out .entry)) at) at (text.setupLine answer) ⌝ }
+    ensures { λ _.
+        ⌜
+        now (out .exit) ≡ text.printed (text.roomy (now (out .entry)) at) (now (out .entry)) at (text.setupLine answer)
+        ⌝ }
+{
+    told_line(b"setup", answer, out, at)
+}
+
+// `script` and the number.
+pub fn script_line(number: u64, out: &mut [u8], at: usize) -> usize
+    ensures { λ r. ⌜ r ≡ text.behind (text.roomy (now (out .entry)) at) at (text.scriptLine number) ⌝ }
+    ensures { λ _.
+        ⌜
+        now (out .exit) ≡ text.printed (text.roomy (now (out .entry)) at) (now (out .entry)) at (text.scriptLine number)
+        ⌝ }
+{
+    told_line(b"script", number, out, at)
 }

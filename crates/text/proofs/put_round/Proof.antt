@@ -1,10 +1,7 @@
 -- `text::put_round` lays a space and the round, or a space and `-`, by whether the station is faulty. Assumes nothing.
-use mathlib.Core.List.{[]}
-use mathlib.Core.Path.{_≡_, sym, _∙_}
+use mathlib.Core.Path.{sym, _∙_}
 use native.Mathlib.Omega.{arith}
-use Rattle.line.specs.Held.{runOf}
-use Rattle.line.specs.HeldLaws.{station-of}
-use Rattle.text.specs.Text.{single, roundOf}
+use Rattle.text.specs.Text.{single}
 use Rattle.text.specs.Laws.{laid-both, length-spaced}
 use borrow.Author.Needs.{needs}
 use Rattle.text.proofs.put_round.Statement.{statement}
@@ -23,15 +20,11 @@ same-length : tie.Need-same-length
 same-length c = search needs
 
 returns : tie.Need-returns
-unfolding roundOf runOf
 returns c =
     let one = c .before .before .before .before .before .before .put-byte .ensures in
     let two = c .before .before .put-byte2 .ensures in
     let faulty = sym (c .before .before .before .before .before .before .before .before .before .has .ensures) ∙ c .before .before .before .before .before .before .before .before .if1 .taken in
-    rw faulty (omega (arith, one .0, two .0), laid-both _ _ (single 32) (single 45) (omega (arith, c .before .before .before .before .before .before .before .before .before .before .before .pre .1)) (one .1) (one .0) (two .1))
-
-station-requires : tie.Need-station-requires
-station-requires c κs = search needs
+    rw faulty (omega (arith, one .0, two .0), laid-both _ _ (single 32) (single 45) (omega (arith, c .before .before .before .before .before .before .before .before .before .before .before .pre)) (one .1) (one .0) (two .1))
 
 put-spaced-requires : tie.Need-put-spaced-requires
 put-spaced-requires c κs = search needs
@@ -40,12 +33,10 @@ same-length-2 : tie.Need-same-length-2
 same-length-2 c = search needs
 
 returns-2 : tie.Need-returns-2
-unfolding roundOf runOf
 returns-2 c =
     let e = c .before .before .put-spaced .ensures in
-    let sound = sym (c .before .before .before .before .before .before .has .ensures) ∙ c .before .before .before .before .before .if1 .left in
-    let s = c .before .before .before .before .station .ensures ∙ station-of _ _ (c .before .before .before .before .before .before .before .before .pre .0) in
-    rw (sound, ← s) (e .0 ∙ omega (arith, length-spaced (c .before .before .before .before .station .result .round)), e .1)
+    let sound = sym (c .before .before .before .before .before .has .ensures) ∙ c .before .before .before .before .if1 .left in
+    rw sound (e .0 ∙ omega (arith, length-spaced (c .before .before .before .before .before .before .before .args .round)), e .1)
 
 pub put-round-spec : {M : Type 1} → statement M
 put-round-spec =
@@ -56,7 +47,6 @@ put-round-spec =
     put-byte-requires-2
     same-length
     returns
-    station-requires
     put-spaced-requires
     same-length-2
     returns-2)
