@@ -15,6 +15,7 @@ use Rattle.clock.specs.Drift.{keeps, inDrift, inDrift-is}
 use Rattle.clock.specs.Pick.{pick, refuse}
 use Rattle.clock.specs.Tests.{neither}
 use Rattle.clock.specs.Time.{later}
+use Rattle.setup.specs.declared.Plan.{Plan}
 use Rattle.station.specs.declared.Station.{Station}
 use Rattle.station.specs.declared.Outcome.{Outcome}
 use Rattle.station.specs.Station.{waits, still, passes, advance}
@@ -29,13 +30,13 @@ use Rattle.line.specs.Run.{Run, sound, noStation, stationAt, sends, moves, sign
 use Rattle.line.specs.Record.{someStation}
 use Rattle.line.specs.Event.{effect, exceedsAt, driftsAt, passesAt, full, eventRules}
 use Rattle.line.specs.Order.{twelve}
-use Rattle.line.specs.Held.{stationOf, runOf}
+use Rattle.line.specs.Held.{runOf}
 use Rattle.line.specs.HeldLaws.{first-length}
 use Rattle.line.specs.Moves.{advanceAt, advanceSends, Signed, signed-to}
 use Rattle.run.specs.declared.Meets.{Meets}
 use Rattle.run.specs.declared.Turns.{Turns}
 use Rattle.run.specs.Play.{placedTo, holding, comes-yes, ruled, ruledWords}
-use Rattle.run.specs.Limits.{Held, Going, held-count, settled-station, station-small, going-steady}
+use Rattle.run.specs.Limits.{Held, Going, held-count, station-small, going-steady}
 use Rattle.run.specs.Sends.{sentBy, sent-few, Room, length-sends, codable-sends}
 
 -- ---- what the increments meet
@@ -49,6 +50,14 @@ meetsAt l d increments i = record {
   exceeds = exceedsAt (runOf l []) increments i;
   drifts = driftsAt (runOf l []) d increments i;
   passes = blockedAt l increments i;
+}
+
+-- as the code asks it of a station and its increment
+abbrev pub meetsIn : Plan → ℕ → ℕ → ℕ → Station → Meets
+meetsIn plan d by i s = record {
+  exceeds = eqb (pick (steady plan by s) (moveAnswer plan by s) 12) 12;
+  drifts = sound plan i && not (inDrift (plan .drift) d by);
+  passes = eqb (pick (steady plan by s) (moveAnswer plan by s) 12) 14;
 }
 
 -- some of the first k stations
@@ -84,33 +93,26 @@ meets-number false true number h = rw h (refl, refl)
 meets-number false false number h = rw h (refl, refl)
 
 module _ (l : Line) (d : ℕ) (increments : List ℕ) (g : Going l d increments) (i : ℕ) (h : i < l .plan .stations) (s : Station)
-    (e : s ≡ stationOf l i) where
+    (e : s ≡ stationAt (runOf l []) i) where
   -- what the code makes of a station that advances
   pub goes-is : (o : Outcome) → o ≡ pick (steady (l .plan) (getD increments i 0) s) (advance (l .plan) i (getD increments i 0) s) (still s)
       → o ≡ advanceAt (runOf l []) increments i
   unfolding runOf
-  goes-is o f =
-      let t = settled-station (g .settled) i e in
-      f ∙ rw (t, is-steady (l .plan) (getD increments i 0) (stationAt (runOf l []) i) (going-steady g i h)) refl
+  goes-is o f = f ∙ rw (e, is-steady (l .plan) (getD increments i 0) (stationAt (runOf l []) i) (going-steady g i h)) refl
 
   -- and what it finds that its increment meets
-  pub meets-is : (number : ℕ) (sound-i in-rule : Bool) → number ≡ pick (steady (l .plan) (getD increments i 0) s) (moveAnswer (l .plan) (getD increments i 0) s) 12
-      → sound-i ≡ sound (l .plan) i → in-rule ≡ inDrift (l .plan .drift) d (getD increments i 0)
-      → record { exceeds = eqb number 12; drifts = sound-i && not in-rule; passes = eqb number 14 } ≡ meetsAt l d increments i
+  pub meets-is : (m : Meets) → m ≡ meetsIn (l .plan) d (getD increments i 0) i s → m ≡ meetsAt l d increments i
   unfolding moveAnswer exceedsAt driftsAt passesAt blockedAt runOf
-  meets-is number sound-i in-rule f es ed =
-      let t = settled-station (g .settled) i e in
+  meets-is m f =
       let steady-i = is-steady (l .plan) (getD increments i 0) (stationAt (runOf l []) i) (going-steady g i h) in
-      let number-is : number ≡ moveAnswer (l .plan) (getD increments i 0) (stationAt (runOf l []) i) = f ∙ rw (t, steady-i) refl in
-      let m =
+      let number-is : pick (steady (l .plan) (getD increments i 0) s) (moveAnswer (l .plan) (getD increments i 0) s) 12
+      ≡ moveAnswer (l .plan) (getD increments i 0) (stationAt (runOf l []) i) =
+      rw (e, steady-i) refl in
+      let n =
       meets-number (exceeds (l .plan) (getD increments i 0) (stationAt (runOf l []) i)) (passes (l .plan) (getD increments i 0) (stationAt (runOf l []) i))
-      number number-is in
-      let rule = ed ∙ inDrift-is (l .plan .drift) d (getD increments i 0) (g .settled .plan .limits .drift) (g .span) (g .most i h) in
-      rw (es, rule) (λ j. record {
-        exceeds = m .0 j;
-        drifts = sound (l .plan) i && not (keeps (l .plan .drift) d (getD increments i 0));
-        passes = m .1 j;
-      })
+      _ number-is in
+      let rule = inDrift-is (l .plan .drift) d (getD increments i 0) (g .settled .plan .limits .drift) (g .span) (g .most i h) in
+      f ∙ (λ j. record { exceeds = n .0 j; drifts = sound (l .plan) i && not (rule j); passes = n .1 j })
 
 module _ (l : Line) (increments : List ℕ) where
   -- where none exceeds a limit, one is blocked where one passes its mark
@@ -186,7 +188,7 @@ module _ (l : Line) (increments : List ℕ) (i : ℕ) (o : Outcome) (f : o ≡ a
   unfolding sentTo
   turn-sent e m = rw (add-one, e, m, f) refl
 
-  module _ (d : ℕ) (g : Going l d increments) (h : i < l .plan .stations) (s : Station) (e : s ≡ stationOf l i) (time : ℕ)
+  module _ (d : ℕ) (g : Going l d increments) (h : i < l .plan .stations) (s : Station) (e : s ≡ stationAt (runOf l []) i) (time : ℕ)
       (t : time ≡ later (l .time .0) d) (words w : List ℕ) (room : length words ≡ 3 * maxFlight)
       (most : l .count + sentTo l increments (l .plan .stations) ≤ maxFlight) (n : ℕ) (c : n ≡ l .count + sentTo l increments i)
       (at : Laid words w (decode (l .count) words ++ advanceSends (runOf l []) d increments i)) where
@@ -209,7 +211,6 @@ module _ (l : Line) (increments : List ℕ) (i : ℕ) (o : Outcome) (f : o ≡ a
     unfolding advanceSends runOf holds
     turn-laid small {after} a =
         let exact : time ≡ l .time .0 + d = t ∙ omega (arith, g .settled .time, g .span) in
-        let here = settled-station (g .settled) i e in
         let many : n ≡ length (decode (l .count) words ++ advanceSends (runOf l []) d increments i) =
         omega (
           arith,
@@ -232,7 +233,7 @@ module _ (l : Line) (increments : List ℕ) (i : ℕ) (o : Outcome) (f : o ≡ a
         (codable-sends (l .plan) time i (s .round + 1) o (turn-room .place) (turn-room .low) (turn-room .fits) small) in
         let next : (decode (l .count) words ++ advanceSends (runOf l []) d increments i) ++ sent
         ≡ decode (l .count) words ++ advanceSends (runOf l []) d increments (i + 1) =
-        append-assoc (decode (l .count) words) (advanceSends (runOf l []) d increments i) sent ∙ rw (add-one i, exact, here, f) refl in
+        append-assoc (decode (l .count) words) (advanceSends (runOf l []) d increments i) sent ∙ rw (add-one i, exact, e, f) refl in
         rw stands
         (subst (λ ms. Laid words (coded w ((decode (l .count) words ++ advanceSends (runOf l []) d increments i) ++ sent)) ms) next laid)
 

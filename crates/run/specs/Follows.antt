@@ -41,31 +41,32 @@ use Rattle.run.specs.Limits.{Held, held-is}
 -- ---- the record of a run holds it
 
 -- the places are as many as before
-placed-length : (table stations : List Station) (k : ℕ) → length (placedTo table stations k) ≡ length table
+pub placed-length : (table stations : List Station) (k : ℕ) → length (placedTo table stations k) ≡ length table
 unfolding placedTo
 placed-length table stations zero = refl
 placed-length table stations (suc k) = length-set (placedTo table stations k) k (getD stations k noStation) ∙ placed-length table stations k
 
--- each of the first k is in its place
-placed-at : (table stations : List Station) (k i : ℕ) → k ≤ length table → i < k → getD (placedTo table stations k) i noStation ≡ getD stations i noStation
+-- each of the first k is in its place, where the table has one
+pub placed-at : (table stations : List Station) (k i : ℕ) → i < length table → i < k → getD (placedTo table stations k) i noStation ≡ getD stations i noStation
 unfolding placedTo
 placed-at table stations zero i m h = absurd (omega arith)
 placed-at table stations (suc k) i m h = elim (decLt i k) [
   | yes b ↦
       getD-set-other (placedTo table stations k) k i (getD stations k noStation) noStation (λ e. omega arith)
-      ∙ placed-at table stations k i (omega arith) b
+      ∙ placed-at table stations k i m b
   | no b ↦
       let s : i ≡ k = omega arith in
       rw s (getD-set-same (placedTo table stations k) k (getD stations k noStation) noStation (omega (arith, placed-length table stations k)))
 ]
 
 -- so the first n are the stations
-first-placed : (n : ℕ) (table stations : List Station) → length stations ≡ n → n ≤ length table → firstOf n (placedTo table stations n) ≡ stations
-first-placed n table stations e h =
-    ext-getD noStation (firstOf n (placedTo table stations n)) stations (first-length n (placedTo table stations n) ∙ sym e)
+pub first-placed : (n k : ℕ) (table stations : List Station) → length stations ≡ n → n ≤ k → n ≤ length table
+    → firstOf n (placedTo table stations k) ≡ stations
+first-placed n k table stations e m h =
+    ext-getD noStation (firstOf n (placedTo table stations k)) stations (first-length n (placedTo table stations k) ∙ sym e)
     (λ i b.
-    let l : i < n = omega (arith, first-length n (placedTo table stations n)) in
-    sym (place-some n (placedTo table stations n) i l) ∙ placed-at table stations n i h l)
+    let l : i < n = omega (arith, first-length n (placedTo table stations k)) in
+    sym (place-some n (placedTo table stations k) i l) ∙ placed-at table stations k i (omega arith) (omega arith))
 
 -- words hold every message of a valid run
 valid-codable : (r : Run) → Valid r → All Codable (r .flight)
@@ -90,14 +91,16 @@ pub holding-run : (l : Line) (words : List ℕ) (r : Run) → Valid r → r .pla
 unfolding runOf holding
 holding-run l words r v p twelve =
     let n : r .plan .stations ≡ l .plan .stations = ap (λ (x : Plan). x .stations) p in
-    let seats = first-placed (l .plan .stations) (l .stations) (r .stations) (v .rules .long ∙ n) (omega (arith, v .rules .plan .stations .1)) in
+    let seats =
+    first-placed (l .plan .stations) (l .plan .stations) (l .stations) (r .stations) (v .rules .long ∙ n) (omega arith)
+    (omega (arith, v .rules .plan .stations .1)) in
     let messages = decode-coded words (valid-codable r v) in
     λ j. record { plan = sym p j; time = r .time; stations = seats j; flight = messages j }
 
 -- ---- one event
 
 -- a record whose table has n stations, whose words are for 1,024 messages and whose run is valid is not refused
-line-good : (l : Line) (words : List ℕ) → l .length ≡ l .plan .stations → length words ≡ 3 * maxFlight → badRecord (runOf l words) ≡ false
+pub line-good : (l : Line) (words : List ℕ) → l .length ≡ l .plan .stations → length words ≡ 3 * maxFlight → badRecord (runOf l words) ≡ false
     → badLine l words ≡ false
 unfolding badLine
 line-good l words a b v = rw (eq-eqb _ _ a, eq-eqb _ _ b, v) refl
@@ -149,6 +152,10 @@ module _ (l : Line) (words : List ℕ) (e : Event) (increments : List ℕ) (ok :
         answered : eqb (playAnswer l words e increments) 0 ≡ true → stepAnswer (runOf l words) e increments ≡ 0
         answered q = let n = refuse-none (badLine l words) 9 (stepAnswer (runOf l words) e increments) (eqb-true _ _ q) in n .1
     play-size false z = let h = held-is l words ok in rw z (h .long, h .room, twelve)
+
+    -- so the words are as many as before
+    pub play-words : length (playedWords l words e increments) ≡ length words
+    play-words = play-size (eqb (playAnswer l words e increments) 0) refl .1 ∙ sym (held-is l words ok .room)
 
     -- and the record stays valid
     pub play-keeps : (badLine (played l words e increments .line) (playedWords l words e increments) ≡ false)

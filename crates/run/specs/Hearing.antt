@@ -28,16 +28,16 @@ use Rattle.flight.specs.Keys.{take-allowed}
 use Rattle.event.specs.declared.Event.{Event}
 use Rattle.event.specs.declared.Event.the-variants.{Deliver, Send}
 use Rattle.line.specs.declared.Line.{Line}
-use Rattle.line.specs.Run.{Run, noStation, stationAt, sends, become, hearAt}
+use Rattle.line.specs.Run.{Run, sound, noStation, stationAt, sends, become, hearAt}
 use Rattle.line.specs.Record.{someStation}
 use Rattle.line.specs.Event.{namesOf, takeOut, effect, unsignedAt, unsigned, full, eventRules}
 use Rattle.line.specs.Order.{sixteen, deliver-last, seventeen, eighteen, send-last}
-use Rattle.line.specs.Held.{firstOf, placeOf, stationOf, runOf}
+use Rattle.line.specs.Held.{firstOf, placeOf, runOf}
 use Rattle.line.specs.HeldLaws.{first-length, place-some}
 use Rattle.line.specs.Moves.{heard, heardSends, heardRun}
 use Rattle.run.specs.declared.Played.{Played}
 use Rattle.run.specs.Play.{placedTo, holding, comes-yes, ruled, ruledWords, deliverOf}
-use Rattle.run.specs.Limits.{Held, Settled, held-count, held-settled, settled-station}
+use Rattle.run.specs.Limits.{Held, Settled, held-count}
 use Rattle.run.specs.Sends.{sentBy, length-sends}
 
 -- ---- one station in its new place
@@ -56,24 +56,40 @@ became l count i o = record {
 abbrev pub sendsAt : Line → ℕ → Outcome → List Message
 sendsAt l i o = sends (l .plan) (l .time .0) i (waits (stationAt (runOf l []) i)) o
 
+-- the answer then
+abbrev pub placed : Line → ℕ → ℕ → Outcome → Played
+placed l count i o = record { answer = 0; line = became l count i o }
+
 -- as the code comes to it: the station's round is read off the record
-pub take-placed : (l : Line) (words : List ℕ) (n i : ℕ) (o : Outcome) (s : Station) (after : ℕ) (w : List ℕ) → Settled l → s ≡ stationOf l i
+pub take-placed : (l : Line) (words : List ℕ) (n i : ℕ) (o : Outcome) (s : Station) (after : ℕ) (w : List ℕ) → s ≡ stationAt (runOf l []) i
     → after ≡ n + sentBy (l .plan) i o → w ≡ coded words (decode n words ++ sends (l .plan) (l .time .0) i (s .round + 1) o)
-    → (record { plan = l .plan; time = l .time; length = l .length; stations = set (l .stations) i (o .station); count = after } ≡ became l n i o)
+    → (record {
+      answer = 0;
+      line = record { plan = l .plan; time = l .time; length = l .length; stations = set (l .stations) i (o .station); count = after };
+    } ≡ placed l n i o)
     × (w ≡ coded words (decode n words ++ sendsAt l i o))
-take-placed l words n i o s after w h e f g =
-    let t = settled-station h i e in (
-      ap (λ (x : ℕ). record { plan = l .plan; time = l .time; length = l .length; stations = set (l .stations) i (o .station); count = x }) f,
-      g ∙ rw t refl,
-    )
+take-placed l words n i o s after w e f g = (
+  λ j. record {
+    answer = 0;
+    line = record { plan = l .plan; time = l .time; length = l .length; stations = set (l .stations) i (o .station); count = f j };
+  },
+  g ∙ rw e refl,
+)
 
 -- what the code makes of a station that hears
-pub heard-is : (l : Line) (i round signers : ℕ) (s : Station) (o : Outcome) → Settled l → i < l .plan .stations → s ≡ stationOf l i
+pub heard-is : (l : Line) (i round signers : ℕ) (s : Station) (o : Outcome) → Settled l → i < l .plan .stations → s ≡ stationAt (runOf l []) i
     → o ≡ pick (small (l .plan) s) (hear (l .plan) round signers s) (still s) → o ≡ heard (runOf l []) i round signers
 unfolding runOf
-heard-is l i round signers s o h k e f =
-    let t = settled-station h i e in
-    f ∙ rw (t, is-small (l .plan) (stationAt (runOf l []) i) (h .small i k)) refl
+heard-is l i round signers s o h k e f = f ∙ rw (e, is-small (l .plan) (stationAt (runOf l []) i) (h .small i k)) refl
+
+-- whether station i, as it stands, is a sound signer whose last signed round is another
+abbrev pub unsignedIn : Plan → Station → ℕ → ℕ → ℕ → Bool
+unsignedIn plan s round signers i = has signers i && (sound plan i && not (eqb (s .signed) round))
+
+pub unsigned-in : (l : Line) (i round signers : ℕ) (s : Station) → s ≡ stationAt (runOf l []) i
+    → unsignedIn (l .plan) s round signers i ≡ unsignedAt (runOf l []) round signers i
+unfolding unsignedAt runOf
+unsigned-in l i round signers s e = rw e refl
 
 module _ (n : ℕ) (table : List Station) (i : ℕ) (s : Station) (h : i < n) where
   -- the first k in their places: station i anew once its turn has come
@@ -203,21 +219,23 @@ module _ (l : Line) (words : List ℕ) (h : Held l words) (x : Names) (at : ℕ)
           omega (arith, length-leaving, taken .0, h .room)
 
       -- the run and the words after it
-      pub deliver-comes : ((j : ℕ) → getD words j 0 < 2 ^ 64) → (next : Line) (v : List ℕ) → next ≡ became l (left .count) (x .recipient) o
+      pub deliver-comes : ((j : ℕ) → getD words j 0 < 2 ^ 64) → (p : Played) (v : List ℕ) → p ≡ placed l (left .count) (x .recipient) o
           → v ≡ coded w (decode (left .count) w ++ sendsAt l (x .recipient) o)
-          → (record { answer = 0; line = next } ≡ ruled l words (deliverOf x) []) × (v ≡ ruledWords l words (deliverOf x) [])
-      deliver-comes fits next v en ev =
+          → (p ≡ ruled l words (deliverOf x) []) × (v ≡ ruledWords l words (deliverOf x) [])
+      deliver-comes fits p v ep ev =
           let laid = laid-without (laid-start (l .count) words room-held fits) at (omega (arith, found-below, length-decode (l .count) words)) in
           let stands : coded w (decode (left .count) w ++ sendsAt l (x .recipient) o) ≡ coded words (leaving ++ sendsAt l (x .recipient) o) =
           rw (taken .0, taken .1)
           (ap (λ (ms : List Message). coded (coded words leaving) (ms ++ sendsAt l (x .recipient) o)) (laid-decode laid)
           ∙ laid-over laid (leaving ++ sendsAt l (x .recipient) o) (omega (arith, length-append leaving (sendsAt l (x .recipient) o)))) in
-          comes-yes l words (effect (runOf l words) (deliverOf x) []) (eventRules (runOf l words) (deliverOf x) []) next v
-          (deliver-rules ∙ rw (le-ltb maxFlight _ few) refl)
-          (en ∙ heard-holds l words (x .recipient) (x .round) (m .signers) o eo leaving (left .count) k (taken .0)
+          let yes =
+          comes-yes l words (effect (runOf l words) (deliverOf x) []) (eventRules (runOf l words) (deliverOf x) [])
+          (became l (left .count) (x .recipient) o) v (deliver-rules ∙ rw (le-ltb maxFlight _ few) refl)
+          (heard-holds l words (x .recipient) (x .round) (m .signers) o eo leaving (left .count) k (taken .0)
           ∙ ap (holding l) (sym deliver-effect))
           (ev ∙ stands ∙ heard-words l words (x .recipient) (x .round) (m .signers) o eo leaving
-          ∙ ap (λ (r : Run). coded words (r .flight)) (sym deliver-effect))
+          ∙ ap (λ (r : Run). coded words (r .flight)) (sym deliver-effect)) in
+          (ep ∙ yes .0, yes .1)
 
 -- ---- faulty send
 
@@ -228,11 +246,11 @@ module _ (l : Line) (words : List ℕ) (h : Held l words) (sender recipient roun
   send-sound e = seventeen (runOf l words) sender recipient round signers [] (ap not e)
 
   -- whether a needed signature was not made, as the code asks it
-  pub unsigned-is : (s : Station) (some : Bool) → s ≡ stationOf l recipient
+  pub unsigned-is : (s : Station) (some : Bool) → s ≡ stationAt (runOf l []) recipient
       → some ≡ someStation (unsignedAt (runOf l []) round signers) (l .plan .stations)
       → (eqb round (s .round + 1) && some) ≡ unsigned (runOf l words) recipient round signers
   unfolding unsigned unsignedAt runOf
-  unsigned-is s some e f = let t = settled-station (held-settled h) recipient e in rw (t, f) refl
+  unsigned-is s some e f = rw (e, f) refl
 
   module _ (e : has (l .plan .faulty) sender ≡ true) where
     -- 18
@@ -257,13 +275,16 @@ module _ (l : Line) (words : List ℕ) (h : Held l words) (sender recipient roun
       send-full b = send-rules ∙ rw (lt-ltb maxFlight _ b) refl
 
       -- the run and the words after it
-      pub send-comes : recipient < l .plan .stations → l .count + sentBy (l .plan) recipient o ≤ maxFlight → (next : Line) (v : List ℕ)
-          → next ≡ became l (l .count) recipient o → v ≡ coded words (decode (l .count) words ++ sendsAt l recipient o)
-          → (record { answer = 0; line = next } ≡ ruled l words (Send sender recipient round signers) [])
+      pub send-comes : recipient < l .plan .stations → l .count + sentBy (l .plan) recipient o ≤ maxFlight → (p : Played) (v : List ℕ)
+          → p ≡ placed l (l .count) recipient o → v ≡ coded words (decode (l .count) words ++ sendsAt l recipient o)
+          → (p ≡ ruled l words (Send sender recipient round signers) [])
           × (v ≡ ruledWords l words (Send sender recipient round signers) [])
       unfolding effect hearAt become runOf
-      send-comes k few next v en ev =
+      send-comes k few p v ep ev =
+          let yes =
           comes-yes l words (effect (runOf l words) (Send sender recipient round signers) [])
-          (eventRules (runOf l words) (Send sender recipient round signers) []) next v (send-rules ∙ rw (le-ltb maxFlight _ few) refl)
-          (en ∙ heard-holds l words recipient round signers o eo (decode (l .count) words) (l .count) k (sym (length-decode (l .count) words)))
-          (ev ∙ heard-words l words recipient round signers o eo (decode (l .count) words))
+          (eventRules (runOf l words) (Send sender recipient round signers) []) (became l (l .count) recipient o) v
+          (send-rules ∙ rw (le-ltb maxFlight _ few) refl)
+          (heard-holds l words recipient round signers o eo (decode (l .count) words) (l .count) k (sym (length-decode (l .count) words)))
+          (ev ∙ heard-words l words recipient round signers o eo (decode (l .count) words)) in
+          (ep ∙ yes .0, yes .1)

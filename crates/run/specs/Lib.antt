@@ -1,7 +1,11 @@
--- The three events as the code plays them: what each comes to, the limits within which nothing wraps, and the laws.
+-- The three events as the code plays them: what each comes to, the limits within which nothing wraps, and the laws; then a
+-- part of a script.
 pub mod Play
 pub mod Limits
 pub mod Sends
 pub mod Hearing
 pub mod Advance
 pub mod Follows
+pub mod Part
+pub mod PartLaws
+pub mod Rehearsed

@@ -20,8 +20,8 @@ use Rattle.event.specs.Event.{badIncrement, badAdvance, badEnds, barred}
 use Rattle.line.specs.declared.Line.{Line}
 use Rattle.line.specs.Run.{noStation, stationAt}
 use Rattle.line.specs.Record.{badRecord}
-use Rattle.line.specs.Held.{stationOf, runOf, badLine}
-use Rattle.line.specs.HeldLaws.{station-of}
+use Rattle.line.specs.Held.{runOf, badLine}
+use Rattle.line.specs.HeldLaws.{place-some}
 use Rattle.line.specs.Valid.{Valid, valid-is}
 use Rattle.line.specs.Allowed.{increment-is, ends-is}
 
@@ -123,13 +123,13 @@ module _ {l : Line} {words : List ℕ} (h : Held l words) (e : Event) (increment
       let n = neither (badEnds (l .plan .stations) (l .plan .faulty) sender recipient round) (eqb signers 0) (m .0) in
       ends-is (l .plan) sender recipient round (n .0) .to .line
 
--- the station that the code reads off such a record is the run's
-pub settled-station : {l : Line} → Settled l → (i : ℕ) {s : Station} → s ≡ stationOf l i → s ≡ stationAt (runOf l []) i
+-- the station that the code reads off the table is the run's
+pub table-station : (l : Line) (i : ℕ) → i < l .plan .stations → getD (l .stations) i noStation ≡ stationAt (runOf l []) i
 unfolding runOf
-settled-station {l} h i e = e ∙ station-of l i (h .few)
+table-station l i k = place-some (l .plan .stations) (l .stations) i k
 
-pub station-small : {l : Line} → Settled l → (i : ℕ) {s : Station} → i < l .plan .stations → s ≡ stationOf l i → s .round ≤ maxRound
-station-small h i k e = let t = settled-station h i e in rw t (h .small i k .round)
+pub station-small : {l : Line} → Settled l → (i : ℕ) {s : Station} → i < l .plan .stations → s ≡ stationAt (runOf l []) i → s .round ≤ maxRound
+station-small h i k e = rw e (h .small i k .round)
 
 -- a station and its increment
 pub going-steady : {l : Line} {d : ℕ} {increments : List ℕ} → Going l d increments → (i : ℕ) → i < l .plan .stations

@@ -11,7 +11,7 @@ ghost use Rattle.event.specs.declared.Event.the-variants.{Advance, Deliver, Sen
 ghost use Rattle.line.specs.Run as run;
 ghost use Rattle.line.specs.Record.{someStation};
 ghost use Rattle.line.specs.Event as rule;
-ghost use Rattle.line.specs.Moves.{advanceAt, advanceSends, heard};
+ghost use Rattle.line.specs.Moves.{advanceSends};
 ghost use Rattle.line.specs.Held.{runOf};
 ghost use Rattle.run.specs.Play as play;
 ghost use Rattle.run.specs.Limits.{Held, Settled, Going};
@@ -19,6 +19,9 @@ ghost use Rattle.run.specs.Sends as sent;
 ghost use Rattle.run.specs.Sends.{Room};
 ghost use Rattle.run.specs.Hearing as hear;
 ghost use Rattle.run.specs.Advance as going;
+
+mod parts;
+
 use clock::MAX_FLIGHT;
 use clock::MAX_TIME;
 use clock::Moment;
@@ -26,6 +29,9 @@ use event::Event;
 use flight::Message;
 use flight::Names;
 use line::Line;
+pub use parts::Part;
+pub use parts::open;
+pub use parts::play_part;
 use setup::Plan;
 use station::Outcome;
 use station::Station;
@@ -106,35 +112,23 @@ fn tell(
 
 // ---- hearing
 
-// What station i does when it hears signatures of a round.
-fn hears(l: Line, i: u64, round: u64, signers: u64) -> Outcome
-    requires { ⌜ Settled l ⌝ }
-    requires { ⌜ i < l .plan .stations ⌝ }
-    ensures { λ r. ⌜ r ≡ heard (runOf l []) i round signers ⌝ }
-{
-    station::heard(l.plan, round, signers, line::station(l, i))
-}
-
 // Station i has done this while `count` messages stand: it takes its new place, and what it sends follows them.
-fn take_place(l: Line, words: &mut [u64], count: u64, i: u64, o: Outcome) -> Line
+fn take_place(mut l: Line, words: &mut [u64], count: u64, i: u64, s: Station, o: Outcome) -> Played
     requires { ⌜ Settled l ⌝ }
     requires { ⌜ i < l .plan .stations ⌝ }
+    requires { ⌜ s ≡ run.stationAt (runOf l []) i ⌝ }
     requires { ⌜ 3 * (count + sent.sentBy (l .plan) i o) ≤ length (now words) ⌝ }
-    ensures { λ r. ⌜ r ≡ hear.became l count i o ⌝ }
+    ensures { λ r. ⌜ r ≡ hear.placed l count i o ⌝ }
     ensures { λ _.
         ⌜
         now (words .exit) ≡ coded (now (words .entry)) (decode count (now (words .entry)) ++ hear.sendsAt l i o)
         ⌝ }
 {
-    let round = line::station(l, i).round + 1;
-    let after = tell(words, count, l.plan, l.time, i, round, o);
-    let mut stations = l.stations;
-    let s = o.station;
-    stations[i as usize] = s;
-    let mut next = l;
-    next.stations = stations;
-    next.count = after;
-    next
+    let after = tell(words, count, l.plan, l.time, i, s.round + 1, o);
+    let next = o.station;
+    l.stations[i as usize] = next;
+    l.count = after;
+    Played { answer: 0, line: l }
 }
 
 // Deliver: the message leaves the flight and its recipient gathers it.
@@ -152,7 +146,9 @@ fn deliver(l: Line, words: &mut [u64], names: Names) -> Played
         };
     }
     let m = flight::message_at(words, at);
-    let o = hears(l, names.recipient, names.round, m.signers);
+    let i = names.recipient;
+    let s = l.stations[i as usize];
+    let o = station::heard(l.plan, names.round, m.signers, s);
     if MAX_FLIGHT < l.count - 1 + count_sent(l.plan, names.recipient, o) {
         return Played {
             answer: 19,
@@ -160,20 +156,14 @@ fn deliver(l: Line, words: &mut [u64], names: Names) -> Played
         };
     }
     let left = flight::take_out(words, l.count, at);
-    let next = take_place(l, words, left.count, names.recipient, o);
-    Played {
-        answer: 0,
-        line: next,
-    }
+    take_place(l, words, left.count, i, s, o)
 }
 
 // Whether station i is a sound signer whose last signed round is another.
-fn unsigned_at(l: Line, round: u64, signers: u64, i: u64) -> bool
-    requires { ⌜ Settled l ⌝ }
-    ensures { λ r. ⌜ r ≡ rule.unsignedAt (runOf l []) round signers i ⌝ }
+fn unsigned_at(plan: Plan, s: Station, round: u64, signers: u64, i: u64) -> bool
+    ensures { λ r. ⌜ r ≡ hear.unsignedIn plan s round signers i ⌝ }
 {
-    let s = line::station(l, i);
-    mask::has(signers, i) & (line::sound(l.plan, i) & (s.signed != round))
+    mask::has(signers, i) & (line::sound(plan, i) & (s.signed != round))
 }
 
 // Whether some station is.
@@ -184,7 +174,8 @@ fn some_unsigned(l: Line, round: u64, signers: u64) -> bool
     let mut bad = false;
     let mut i: u64 = 0;
     while i < l.plan.stations {
-        bad = bad | unsigned_at(l, round, signers, i);
+        let s = l.stations[i as usize];
+        bad = bad | unsigned_at(l.plan, s, round, signers, i);
         i += 1;
     }
     bad
@@ -203,25 +194,21 @@ fn send(l: Line, words: &mut [u64], sender: u64, recipient: u64, round: u64, sig
             line: l,
         };
     }
-    let s = line::station(l, recipient);
+    let s = l.stations[recipient as usize];
     if (round == s.round + 1) & some_unsigned(l, round, signers) {
         return Played {
             answer: 18,
             line: l,
         };
     }
-    let o = hears(l, recipient, round, signers);
+    let o = station::heard(l.plan, round, signers, s);
     if MAX_FLIGHT < l.count + count_sent(l.plan, recipient, o) {
         return Played {
             answer: 19,
             line: l,
         };
     }
-    let next = take_place(l, words, l.count, recipient, o);
-    Played {
-        answer: 0,
-        line: next,
-    }
+    take_place(l, words, l.count, recipient, s, o)
 }
 
 // ---- advancing
@@ -234,16 +221,13 @@ struct Meets {
 }
 
 // What station i's increment meets.
-fn meets_at(l: Line, d: u64, increments: &[u64], i: u64) -> Meets
-    requires { ⌜ Going l d (now increments) ⌝ }
-    requires { ⌜ i < l .plan .stations ⌝ }
-    ensures { λ r. ⌜ r ≡ going.meetsAt l d (now (increments .entry)) i ⌝ }
+fn meets_at(plan: Plan, d: u64, by: u64, i: u64, s: Station) -> Meets
+    ensures { λ r. ⌜ r ≡ going.meetsIn plan d by i s ⌝ }
 {
-    let by = increments[i as usize];
-    let number = station::refuses(l.plan, by, line::station(l, i));
+    let number = station::refuses(plan, by, s);
     Meets {
         exceeds: number == 12,
-        drifts: line::sound(l.plan, i) & !clock::in_drift(l.plan.drift, d, by),
+        drifts: line::sound(plan, i) & !clock::in_drift(plan.drift, d, by),
         passes: number == 14,
     }
 }
@@ -258,7 +242,9 @@ fn meets_some(l: Line, d: u64, increments: &[u64]) -> Meets
     let mut passes = false;
     let mut i: u64 = 0;
     while i < l.plan.stations {
-        let t = meets_at(l, d, increments, i);
+        let by = increments[i as usize];
+        let s = l.stations[i as usize];
+        let t = meets_at(l.plan, d, by, i, s);
         exceeds = exceeds | t.exceeds;
         drifts = drifts | t.drifts;
         passes = passes | t.passes;
@@ -271,16 +257,8 @@ fn meets_some(l: Line, d: u64, increments: &[u64]) -> Meets
     }
 }
 
-// What station i does: its clock goes on, and it signs where that brings it up to the mark.
-fn goes(l: Line, d: u64, increments: &[u64], i: u64) -> Outcome
-    requires { ⌜ Going l d (now increments) ⌝ }
-    requires { ⌜ i < l .plan .stations ⌝ }
-    ensures { λ r. ⌜ r ≡ advanceAt (runOf l []) (now (increments .entry)) i ⌝ }
-{
-    station::advanced(l.plan, i, increments[i as usize], line::station(l, i))
-}
-
-// The stations after an advance, and how many messages they send.
+// The stations after an advance, and how many messages they send: each clock goes on, and a station signs where that brings
+// it up to the mark.
 struct Turns {
     stations: [Station; 12],
     sent: u64,
@@ -294,9 +272,11 @@ fn take_turns(l: Line, d: u64, increments: &[u64]) -> Turns
     let mut sent: u64 = 0;
     let mut i: u64 = 0;
     while i < l.plan.stations {
-        let o = goes(l, d, increments, i);
-        let s = o.station;
-        stations[i as usize] = s;
+        let by = increments[i as usize];
+        let s = l.stations[i as usize];
+        let o = station::advanced(l.plan, i, by, s);
+        let next = o.station;
+        stations[i as usize] = next;
         sent += count_sent(l.plan, i, o);
         i += 1;
     }
@@ -322,9 +302,10 @@ fn tell_all(l: Line, words: &mut [u64], d: u64, increments: &[u64]) -> u64
     let mut count = l.count;
     let mut i: u64 = 0;
     while i < l.plan.stations {
-        let o = goes(l, d, increments, i);
-        let round = line::station(l, i).round + 1;
-        count = tell(words, count, l.plan, time, i, round, o);
+        let by = increments[i as usize];
+        let s = l.stations[i as usize];
+        let o = station::advanced(l.plan, i, by, s);
+        count = tell(words, count, l.plan, time, i, s.round + 1, o);
         i += 1;
     }
     count

@@ -20,7 +20,7 @@ use Rattle.event.specs.declared.Event.the-variants.{Advance, Deliver, Send}
 use Rattle.script.specs.declared.read.SetupRead.{SetupRead}
 use Rattle.setup.specs.declared.Plan.{Plan}
 use Rattle.clock.specs.Limits.{maxStations}
-use Rattle.clock.specs.Tests.{outside}
+use Rattle.clock.specs.Tests.{outside, inside}
 
 -- with several numbers in front
 abbrev pub andAll : List ℕ → Many → Many
@@ -365,3 +365,24 @@ pub increments-long : (s : List ℕ) (x : Happening) → 12 ≤ length (asEvent 
 unfolding asEvent noneRead
 increments-long s (event e increments next) = padded-long increments
 increments-long s (noEvent number) = omega arith
+
+-- a setup that was read has at most twelve stations, and one that was not has none
+pub setup-few : (s : List ℕ) (at : ℕ) → asSetup s (readSetup s at) .plan .stations ≤ 12
+unfolding asSetup readSetup setupFrom unread planOf
+setup-few s at = go (readNumber s at)
+  where
+    last : (n : ℕ) (vs : List ℕ) → n ≤ 12 → (m : Many) → asSetup s (withFirst n vs m) .plan .stations ≤ 12
+    last n vs h (many first q) = h
+    last n vs h (stopped number) = omega arith
+
+    plan : (n : ℕ) → n ≤ 12 → (m : Many) → asSetup s (withPlan s n m) .plan .stations ≤ 12
+    plan n h (many vs p) = last n vs h (readMany n s p)
+    plan n h (stopped number) = omega arith
+
+    first : (n next : ℕ) (b : Bool) → outside 1 maxStations n ≡ b → asSetup s (pick b (noSetup 1) (withPlan s n (readMany 7 s next))) .plan .stations ≤ 12
+    first n next true e = omega arith
+    first n next false e = plan n (inside 1 maxStations n e .1) (readMany 7 s next)
+
+    go : (r : Number) → asSetup s (onNumber r (setupFrom s) noSetup) .plan .stations ≤ 12
+    go (Value n next) = first n next (outside 1 maxStations n) refl
+    go (Refused number) = omega arith

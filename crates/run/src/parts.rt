@@ -1,0 +1,182 @@
+// A part of a script, played event by event: the record is checked once, then each event is played and its line written, for
+// as long as there are events and room for their lines.
+ghost use mathlib.Core.Path.{_≡_};
+ghost use Prim.Native.Nat.{_≤_};
+ghost use Rattle.run.specs.Part as part;
+use clock::MAX_SCRIPT;
+use clock::Moment;
+use clock::Reading;
+use line::Line;
+use setup::Plan;
+use station::Station;
+
+// How far a script is played: 0, or 10 for the record, or 21 to 24 where the script can't be read on; the run, the place of
+// the next event, the number of the last one played and the place behind its line.
+pub struct Part {
+    pub answer: u64,
+    pub line: Line,
+    pub next: usize,
+    pub number: u64,
+    pub place: usize,
+}
+
+// No run: the number that ends the reading, and the line that says so.
+fn ended(answer: u64, next: usize, place: usize) -> Part
+    ensures { λ r. ⌜ r ≡ part.ended answer next place ⌝ }
+{
+    let table = [Station {
+        round: 0,
+        reading: Reading(0),
+        signed: 0,
+        gathered: 0,
+    }; 12];
+    Part {
+        answer: answer,
+        line: Line {
+            plan: Plan {
+                stations: 0,
+                faults: 0,
+                drift: 0,
+                bound: 0,
+                spread: 0,
+                step: 0,
+                period: 0,
+                faulty: 0,
+            },
+            time: Moment(0),
+            length: 0,
+            stations: table,
+            count: 0,
+        },
+        next: next,
+        number: 0,
+        place: place,
+    }
+}
+
+// Opens a script: its setup is read and answered, and the first line written. A refused one ends it, and so does a script
+// that can't be read or is too long.
+pub fn open(bytes: &[u8], out: &mut [u8]) -> Part
+    ensures { λ r. ⌜ r ≡ part.openPart (part.opening (now (bytes .entry))) (now (out .entry)) ⌝ }
+    ensures { λ _. ⌜ now (out .exit) ≡ part.openOut (part.opening (now (bytes .entry))) (now (out .entry)) ⌝ }
+{
+    if bytes.len() as u64 > MAX_SCRIPT {
+        let place = text::script_line(26, out, 0);
+        return ended(26, bytes.len(), place);
+    }
+    let read = script::read_setup(bytes, 0);
+    if read.answer == 1 {
+        let place = text::setup_line(1, out, 0);
+        return ended(1, read.next, place);
+    }
+    if read.answer != 0 {
+        let place = text::script_line(read.answer, out, 0);
+        return ended(read.answer, read.next, place);
+    }
+    let first = read.first;
+    let plan = read.plan;
+    let begun = line::fresh(plan, &first[..plan.stations as usize]);
+    let line = begun.line;
+    Part {
+        answer: begun.answer,
+        line: line,
+        next: read.next,
+        number: 0,
+        place: text::setup_line(begun.answer, out, 0),
+    }
+}
+
+// The run in a table with nothing behind its stations.
+fn seated(l: Line) -> Line
+    requires { ⌜ l .plan .stations ≤ 12 ⌝ }
+    ensures { λ r. ⌜ r ≡ part.seated l ⌝ }
+{
+    let mut table = [Station {
+        round: 0,
+        reading: Reading(0),
+        signed: 0,
+        gathered: 0,
+    }; 12];
+    let mut i: u64 = 0;
+    while i < l.plan.stations {
+        let s = line::station(l, i);
+        table[i as usize] = s;
+        i += 1;
+    }
+    let mut next = l;
+    next.stations = table;
+    next
+}
+
+// Whether an event stands at the place, and the buffer has room for its line. A script has no more events than bytes.
+fn goes_on(bytes: &[u8], next: usize, number: u64, out: &[u8], place: usize) -> bool
+    ensures { λ r. ⌜ r ≡ part.goesOn (now (bytes .entry)) next number (now (out .entry)) place ⌝ }
+{
+    (next < bytes.len()) & (number < MAX_SCRIPT) & text::roomy(out, place)
+}
+
+// Plays the events of a script from a place on and writes their lines into the buffer, as far as it has room. The record is
+// checked first: 10, and nothing is played.
+pub fn play_part(
+    l: Line,
+    words: &mut [u64],
+    bytes: &[u8],
+    at: usize,
+    played: u64,
+    out: &mut [u8],
+    from: usize,
+) -> Part
+    ensures { λ r.
+        ⌜
+        r ≡ part.partOf (part.played l (now (words .entry)) (now (bytes .entry)) at played (now (out .entry)) from)
+        ⌝ }
+    ensures { λ _.
+        ⌜
+        now (words .exit) ≡ part.played l (now (words .entry)) (now (bytes .entry)) at played (now (out .entry)) from .words
+        ⌝ }
+    ensures { λ _.
+        ⌜
+        now (out .exit) ≡ part.played l (now (words .entry)) (now (bytes .entry)) at played (now (out .entry)) from .out
+        ⌝ }
+{
+    if line::bad_line(l, words) {
+        return Part {
+            answer: 10,
+            line: l,
+            next: at,
+            number: played,
+            place: from,
+        };
+    }
+    let mut line = seated(l);
+    let mut next = at;
+    let mut number = played;
+    let mut place = from;
+    while goes_on(bytes, next, number, out, place) {
+        let n = line.plan.stations;
+        let read = script::read_event(bytes, next, n);
+        if read.answer != 0 {
+            return Part {
+                answer: read.answer,
+                line: line,
+                next: read.next,
+                number: number,
+                place: text::script_line(read.answer, out, place),
+            };
+        }
+        let increments = read.increments;
+        let event = read.event;
+        let p = super::step(line, words, event, &increments[..n as usize]);
+        line = p.line;
+        next = read.next;
+        number += 1;
+        place = text::event_line(number, p.answer, line, out, place);
+    }
+    Part {
+        answer: 0,
+        line: line,
+        next: next,
+        number: number,
+        place: place,
+    }
+}
