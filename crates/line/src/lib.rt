@@ -39,7 +39,7 @@ pub struct Begun {
 }
 
 // A station with nothing in it.
-fn no_station() -> Station
+pub fn no_station() -> Station
     ensures { λ r. ⌜ r ≡ run.noStation ⌝ }
 {
     Station {
