@@ -1,9 +1,9 @@
--- `rehearse::print` lends the first bytes of the buffer. Assumes nothing.
+-- `player::print` lends the first bytes of the buffer. Assumes nothing.
 use mathlib.Core.Path.{sym}
 use lib.Seq.{length-take-le}
 use borrow.Author.Needs.{needs}
-use Rattle.rehearse.proofs.print.Statement.{statement}
-use Rattle.rehearse.proofs.print.Tie as tie
+use Rattle.player.proofs.print.Statement.{statement}
+use Rattle.player.proofs.print.Tie as tie
 
 slice-aggregate-write-all : tie.Need-slice-aggregate-write-all
 slice-aggregate-write-all c = sym (length-take-le _ _ (c .before .if1 .taken))
