@@ -38,15 +38,7 @@ fn show_signed(x: i64) {
     if x < 0 {
         text(b"-");
     }
-    show(magnitude(x));
-}
-
-// A number without its sign.
-fn magnitude(x: i64) -> u64 {
-    if x < 0 {
-        return (-1 - x) as u64 + 1;
-    }
-    x as u64
+    show(text::magnitude(x));
 }
 
 fn same_station(a: Station, b: Station) -> bool {
