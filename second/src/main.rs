@@ -1,10 +1,12 @@
 //! A second program for document 01: it rehearses scripts, plays single events on records,
 //! makes scripts and records, and checks demand 3 on runs.
 
+mod bench;
 mod check;
 mod line;
 mod make;
 mod number;
+mod pack;
 mod records;
 mod script;
 mod setup;
@@ -17,7 +19,8 @@ use std::io::{self, Read, Write};
 use std::process::ExitCode;
 
 const USAGE: &str = "second rehearse | single | make SEED COUNT DIR KIND | check FILE... \
-                     | records SEED COUNT FILE | singles FILE";
+                     | pack SEED COUNT FILE KIND | records SEED COUNT FILE | replay FILE \
+                     | bench KIND EVENTS FILE";
 
 fn main() -> ExitCode {
     let words: Vec<String> = std::env::args().skip(1).collect();
@@ -71,15 +74,25 @@ fn run(words: &[&str]) -> Result<(), String> {
             }
             writeln!(sink, "{} scripts, {events} events, all hold", files.len()).map_err(told)?;
         }
+        ["pack", seed, count, file, kind] => {
+            let (seed, count) = (whole(seed)?, whole(count)?);
+            let mut out = Vec::new();
+            for place in 1..=count {
+                let bytes = make::script(seed, place, kind).ok_or(USAGE)?;
+                pack::add(&mut out, pack::SCRIPT, &bytes);
+            }
+            fs::write(file, out).map_err(told)?;
+        }
         ["records", seed, count, file] => {
             fs::write(file, records::records(whole(seed)?, whole(count)?)).map_err(told)?;
         }
-        ["singles", file] => {
+        ["replay", file] => {
             let bytes = fs::read(file).map_err(told)?;
-            let mut out = Vec::new();
-            let ended = single::singles(&bytes, &mut out);
-            sink.write_all(&out).map_err(told)?;
-            ended?;
+            pack::replay(&bytes, &mut sink).map_err(told)?;
+        }
+        ["bench", kind, events, file] => {
+            let bytes = bench::script(kind, whole(events)? as usize).ok_or(USAGE)?;
+            fs::write(file, bytes).map_err(told)?;
         }
         _ => return Err(USAGE.into()),
     }

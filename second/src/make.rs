@@ -609,11 +609,82 @@ fn damage(random: &mut Random, parts: &mut [Vec<u64>]) -> Vec<u8> {
     bytes
 }
 
+/// Document 01's rehearsal: its setup, and the advance in which station 1 signs round 1.
+const SETUP: [u64; 11] = [3, 1, 0, 2, 2, 4, 7, 4, 4, 5, 0];
+const SIGNED: [u64; 5] = [1, 2, 2, 2, 0];
+
+/// Scripts written by hand: together they reach every answer that a script can reach.
+pub fn each() -> Vec<Vec<u8>> {
+    let mut scripts = Vec::new();
+    // 0 to 8: one number of the setup is changed.
+    let changes = [
+        (0, 0),
+        (0, 13),
+        (1, 2),
+        (2, 101),
+        (3, 0),
+        (4, BOUND + 1),
+        (5, STEP + 1),
+        (6, PERIOD + 1),
+        (7, 8),
+        (7, 3),
+        (6, 6),
+        (5, 3),
+        (4, 1),
+        (8, 3),
+        (8, 6),
+        (8, 7),
+        (10, 4),
+    ];
+    for (place, value) in changes {
+        let mut setup = SETUP;
+        setup[place] = value;
+        scripts.push(encode(&[setup.to_vec(), SIGNED.to_vec()]));
+    }
+    // One event behind that advance; the last two need one more.
+    let signed = encode(&[SETUP.to_vec(), SIGNED.to_vec()]);
+    let events: [&[u64]; 11] = [
+        &[2, 1, 0, 1, 0],
+        &[1, 0, 0, 0, 0],
+        &[2, 1, 0, 1, 2],
+        &[3, 2, 0, 1, 8],
+        &[1, 1, 1, 2, 0],
+        &[1, 2, 2, 2, 0],
+        &[2, 1, 0, 1, 1],
+        &[3, 0, 1, 1, 4],
+        &[3, 2, 0, 1, 1],
+        &[1, 1, 1, 1, 0, 1, 1, 1, 1, 0],
+        &[1, 1, 1, 1, 0, 1, 2, 2, 2, 0],
+    ];
+    for event in events {
+        scripts.push([&signed[..], &encode(&[event.to_vec()])].concat());
+    }
+    // 21 to 24, in the setup and behind an event; no byte and one byte among them.
+    let stops: [&[u8]; 7] = [&[], &[0x80], &[0x80, 0], &[0xFF; 10], &[0], &[4], &[2, 1, 0]];
+    for stop in stops {
+        scripts.push(stop.to_vec());
+        scripts.push([&signed[..], stop].concat());
+    }
+    // The longest that is played, and one byte more.
+    let mut longest = encode(&[SETUP.to_vec()]);
+    while longest.len() < LARGEST {
+        longest.extend([2, 1, 0, 1, 0]);
+    }
+    longest.truncate(LARGEST);
+    scripts.push(longest);
+    scripts.push(vec![0; LARGEST + 1]);
+    scripts
+}
+
 /// One script of a kind; none for a kind that is not known.
 pub fn script(seed: u64, place: u64, kind: &str) -> Option<Vec<u8>> {
+    if kind == "each" {
+        return each().into_iter().cycle().nth(place as usize - 1);
+    }
     let mut random = Random::new(seed, place);
+    let small = kind == "small";
     let kind = match kind {
-        "mixed" => ["good", "hostile", "spoilt", "damaged"][place as usize % 4],
+        "mixed" | "small" => ["good", "hostile", "spoilt", "damaged"][place as usize % 4],
         kind => kind,
     };
     let hostile = match kind {
@@ -622,7 +693,7 @@ pub fn script(seed: u64, place: u64, kind: &str) -> Option<Vec<u8>> {
         "spoilt" | "damaged" => random.percent(50),
         _ => return None,
     };
-    let most = random.pick(&[20, 80, 200, 400]);
+    let most = if small { 40 } else { random.pick(&[20, 80, 200, 400]) };
     let events = random.between(5, most);
     let mut play = Play::new(Random::new(random.next(), 0), hostile);
     for _ in 0..events {

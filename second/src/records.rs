@@ -2,6 +2,7 @@
 
 use crate::line::{Line, Names, FLIGHT, INCREMENT, READING, READY, RELAY, ROUNDS, TIME};
 use crate::make::{odd, Play, Random};
+use crate::pack;
 use crate::setup::{Setup, BOUND, PERIOD, STEP};
 use crate::single::Record;
 
@@ -309,13 +310,11 @@ fn spoil(random: &mut Random, record: &mut Record) {
     }
 }
 
-/// COUNT records, each preceded by its length as 4 bytes little endian.
+/// COUNT records, packed.
 pub fn records(seed: u64, count: u64) -> Vec<u8> {
     let mut out = Vec::new();
     for place in 1..=count {
-        let bytes = record(seed, place);
-        out.extend((bytes.len() as u32).to_le_bytes());
-        out.extend(bytes);
+        pack::add(&mut out, pack::RECORD, &record(seed, place));
     }
     out
 }

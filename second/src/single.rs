@@ -229,22 +229,3 @@ fn row(out: &mut Vec<u8>, word: &str, values: &[u64]) {
     }
     out.push(b'\n');
 }
-
-/// What `single` prints for each record of a file, after a line `record I`.
-pub fn singles(mut bytes: &[u8], out: &mut Vec<u8>) -> Result<(), String> {
-    let mut count = 0;
-    while !bytes.is_empty() {
-        count += 1;
-        let cut = || format!("record {count} is cut short");
-        let (length, rest) = bytes.split_first_chunk::<4>().ok_or_else(cut)?;
-        let length = u32::from_le_bytes(*length) as usize;
-        if length > rest.len() {
-            return Err(cut());
-        }
-        let (record, rest) = rest.split_at(length);
-        word(out, "record", count);
-        single(record, out);
-        bytes = rest;
-    }
-    Ok(())
-}

@@ -1,13 +1,15 @@
 //! Document 01's values, forms, slips and sizes, and the makers' own promises.
 
+use crate::bench;
 use crate::check::{check, Watch};
 use crate::line::{Line, Reading, READY, RELAY};
 use crate::make::{self, Play, Random};
 use crate::number;
+use crate::pack::{self, pieces, replay};
 use crate::records;
 use crate::script::{rehearse, Event, LARGEST};
 use crate::setup::Setup;
-use crate::single::{single, singles, Record};
+use crate::single::{single, Record};
 
 const SCRIPT: &str = "03 01 00 02 02 04 07 04 04 05 00  01 02 02 02 00  01 03 03 03 00  \
     03 02 00 01 01  03 02 01 01 04  02 01 00 01 01  01 03 03 03 00  02 01 00 01 00  01 01 01 01 00";
@@ -477,7 +479,7 @@ fn good_scripts_are_accepted_and_all_hold() {
 
 #[test]
 fn scripts_of_every_kind_hold() {
-    for kind in ["hostile", "spoilt", "damaged", "mixed"] {
+    for kind in ["hostile", "spoilt", "damaged", "mixed", "small"] {
         for place in 1..=200 {
             let bytes = make::script(8, place, kind).unwrap();
             assert!(bytes.len() <= LARGEST);
@@ -526,28 +528,92 @@ fn setups_off_the_rules_violate_each_sentence() {
     }
 }
 
+fn replayed(bytes: &[u8]) -> String {
+    let mut out = Vec::new();
+    replay(bytes, &mut out).unwrap();
+    String::from_utf8(out).unwrap()
+}
+
 #[test]
 fn records_are_read_back_and_every_answer_is_met() {
     let bytes = records::records(3, 4_000);
-    let mut out = Vec::new();
-    singles(&bytes, &mut out).unwrap();
-    let told = String::from_utf8(out).unwrap();
-    assert_eq!(told.lines().filter(|line| line.starts_with("record ")).count(), 4_000);
+    let told = replayed(&bytes);
     for answer in [0, 10, 11, 12, 13, 14, 15, 16, 17, 18, 19, 31, 32] {
         assert!(told.contains(&format!("\nanswer {answer}\n")), "{answer}");
     }
-    assert!(singles(&bytes[..bytes.len() - 1], &mut Vec::new()).is_err());
+    assert_eq!(pieces(&bytes).count(), 4_000);
     // A record written again has the same bytes.
-    let length = u32::from_le_bytes(bytes[..4].try_into().unwrap()) as usize;
-    let first = &bytes[4..4 + length];
+    let (kind, first) = pieces(&bytes).next().unwrap();
+    assert_eq!(kind, pack::RECORD);
     assert_eq!(Record::read(first).unwrap().write(), first);
+}
+
+#[test]
+fn pieces_are_played_in_order_up_to_one_cut_short() {
+    let script = hex(SCRIPT);
+    let mut record = Vec::new();
+    single(&script, &mut record);
+    let record = String::from_utf8(record).unwrap();
+    let mut bytes = Vec::new();
+    for (kind, piece) in [(0, &script[..]), (1, &script), (2, &script), (0, &[]), (0, &[0])] {
+        pack::add(&mut bytes, kind, piece);
+    }
+    let before = format!("{PRINTED}{record}script 21\n");
+    assert_eq!(replayed(&bytes), format!("{before}setup 1\n"));
+    for length in bytes.len() - 6..bytes.len() {
+        assert_eq!(replayed(&bytes[..length]), before);
+    }
+    // The longest piece is too large to be played; one byte more ends the file.
+    let mut long = Vec::new();
+    pack::add(&mut long, 0, &vec![0; pack::LONGEST]);
+    assert_eq!(replayed(&[&long[..], &bytes].concat()), format!("script 26\n{before}setup 1\n"));
+    long.clear();
+    pack::add(&mut long, 0, &vec![0; pack::LONGEST + 1]);
+    assert_eq!(replayed(&[&bytes, &long[..], &bytes].concat()), format!("{before}setup 1\n"));
+}
+
+#[test]
+fn every_answer_occurs_in_the_stored_output() {
+    let stored = concat!(env!("CARGO_MANIFEST_DIR"), "/../crates/replay/stdout");
+    let told = std::fs::read_to_string(stored).unwrap();
+    // What stands before an answer: `setup`, `script`, or the number of an event.
+    let answers = |wanted: &[u64], before: fn(&str) -> bool| {
+        for answer in wanted.iter().map(u64::to_string) {
+            let mut lines = told.lines().map(|line| line.split(' '));
+            let met = |mut words: std::str::Split<char>| {
+                words.next().is_some_and(before) && words.next() == Some(&answer[..])
+            };
+            assert!(lines.any(met), "{answer}");
+        }
+    };
+    answers(&[0, 1, 2, 3, 4, 5, 6, 7, 8], |word| word == "setup");
+    answers(&[0, 11, 13, 14, 15, 16, 17, 18], |word| word.parse::<u64>().is_ok());
+    answers(&[21, 22, 23, 24, 26], |word| word == "script");
+}
+
+#[test]
+fn scripts_for_measuring() {
+    for kind in ["deliveries", "run", "refusals"] {
+        let bytes = bench::script(kind, 13_000).unwrap();
+        assert!(bytes.len() <= LARGEST);
+        check(&bytes).unwrap();
+        let answers = answers(&bytes);
+        assert_eq!(answers.len(), 13_000);
+        let refused: Vec<u8> = answers.into_iter().filter(|&answer| answer != 0).collect();
+        match kind {
+            "deliveries" => assert!(refused.is_empty()),
+            "run" => assert!(refused.contains(&17) && refused.contains(&18)),
+            _ => assert_eq!(refused.len(), 12_999),
+        }
+    }
+    assert_eq!(bench::script("other", 1), None);
 }
 
 /// Twelve stations, ten thousand events: prints the time of each event.
 #[test]
 #[ignore = "a measure, not a test"]
 fn speed() {
-    let bytes = crowd();
+    let bytes = bench::script("deliveries", 10_000).unwrap();
     let mut out = Vec::with_capacity(1 << 20);
     let mut best = f64::MAX;
     for _ in 0..200 {
@@ -558,27 +624,4 @@ fn speed() {
     }
     let events = out.iter().filter(|&&byte| byte == b'\n').count() - 1;
     println!("{events} events, {} bytes, {:.1} ns each", bytes.len(), best / events as f64);
-    if let Ok(file) = std::env::var("SPEED_SCRIPT") {
-        std::fs::write(file, bytes).unwrap();
-    }
-}
-
-/// All twelve land together round after round, then all messages are delivered.
-fn crowd() -> Vec<u8> {
-    let setup = Setup { n: 12, f: 5, r: 0, t: 2, d: 2, a: 4, p: 7, faulty: 0 };
-    let mut line = Line::fresh(setup, &[4; 12]);
-    let mut parts = vec![setup.numbers().to_vec(), vec![4; 12]];
-    let mut random = Random::new(1, 1);
-    while parts.len() < 10_002 {
-        let part = match line.flight.len() {
-            0 => [vec![1, 3], vec![3; 12]].concat(),
-            _ => {
-                let m = random.pick(&line.flight.names);
-                vec![2, m.sender(), m.recipient(), m.round(), m.kind()]
-            }
-        };
-        assert_eq!(Event::from_numbers(&part).unwrap().play(&mut line), 0);
-        parts.push(part);
-    }
-    make::encode(&parts)
 }
