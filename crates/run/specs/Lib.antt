@@ -1,5 +1,5 @@
--- The three events as the code plays them: what each comes to, the limits within which nothing wraps, and the laws; then a
--- part of a script.
+-- The three events as the code plays them: what each comes to, the limits within which nothing wraps, and the laws; then the
+-- parts of a script, and the rehearsal that they are put together.
 pub mod Play
 pub mod Limits
 pub mod Sends
@@ -9,3 +9,4 @@ pub mod Follows
 pub mod Part
 pub mod PartLaws
 pub mod Rehearsed
+pub mod Printed

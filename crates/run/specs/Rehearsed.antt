@@ -11,21 +11,27 @@ use borrow.Author.Tests.{eqb-true, eqb-false, eq-eqb, ne-eqb}
 use Rattle.clock.specs.Limits.{maxScript}
 use Rattle.clock.specs.Pick.{pick}
 use Rattle.clock.specs.Tests.{both}
+use Rattle.setup.specs.declared.Plan.{Plan}
+use Rattle.setup.specs.Setup.{setupAnswer}
 use Rattle.event.specs.declared.Event.{Event}
 use Rattle.number.specs.Number.{laid}
 use Rattle.number.specs.Laws.{laid-none, laid-on}
+use Rattle.script.specs.declared.read.SetupRead.{SetupRead}
 use Rattle.script.specs.declared.read.EventRead.{EventRead}
-use Rattle.script.specs.Read.{readEvent, asEvent}
+use Rattle.script.specs.Read.{readSetup, asSetup, readEvent, asEvent}
 use Rattle.line.specs.declared.Line.{Line}
-use Rattle.line.specs.Run.{Run, stationAt}
+use Rattle.line.specs.Run.{Run, stationAt, fresh}
 use Rattle.line.specs.Event.{eventAnswer, step}
 use Rattle.line.specs.Held.{runOf, badLine}
-use Rattle.text.specs.Text.{roundsTo, roundOf, eventLine, scriptLine, roomy}
+use Rattle.line.specs.declared.Begun.{Begun}
+use Rattle.line.specs.Fresh.{noStations, noPlan, lineFor, seatedTo, begun, fresh-run}
+use Rattle.text.specs.Text.{roundsTo, roundOf, eventLine, setupLine, scriptLine, roomy}
 use Rattle.run.specs.Play.{comes, playAnswer}
 use Rattle.run.specs.Play.{played as eventPlayed, playedWords}
+use Rattle.run.specs.Limits.{held-is, held-settled}
 use Rattle.run.specs.Follows.{play-answer, play-run, play-keeps}
-use Rattle.run.specs.Part.{Standing, goesOn, lineOf, after, stops, readAt, playedFrom, seated, standing, played}
-use Rattle.run.specs.PartLaws.{goes-number, line-of-most, seated-good, seated-twelve}
+use Rattle.run.specs.Part.{Opening, closed, begins, opened, opening, Standing, goesOn, lineOf, after, stops, readAt, playedFrom, seated, standing, played}
+use Rattle.run.specs.PartLaws.{goes-number, line-of-most, seated-good, seated-twelve, seated-run}
 
 -- ---- the lines of a rehearsal
 
@@ -189,9 +195,91 @@ module _ (bytes : List ℕ) where
 
 -- ---- the parts of a script
 
--- a part writes its lines, and all that is still to be written follows: so the parts put together are the rehearsal
+-- seating a run changes nothing of what is still to be written
+rest-seated : (l : Line) (words bytes : List ℕ) (at number : ℕ) (out : List ℕ) (from : ℕ) → l .plan .stations ≤ 12
+    → restOf bytes (standing 0 (seated l) words at number out from) ≡ restOf bytes (standing 0 l words at number out from)
+unfolding restOf
+rest-seated l words bytes at number out from few = ap (linesFrom (maxScript - number) bytes at number) (seated-run l words few)
+
+-- a part writes its lines, and all that is still to be written follows
 pub part-lines : (l : Line) (words bytes : List ℕ) (at number : ℕ) (out : List ℕ) (from : ℕ) → badLine l words ≡ false
-    → Wrote bytes (standing 0 (seated l) words at number out from) (played l words bytes at number out from)
+    → Wrote bytes (standing 0 l words at number out from) (played l words bytes at number out from)
 unfolding played
 part-lines l words bytes at number out from ok =
-    rw ok (wrote bytes (maxScript - number) (standing 0 (seated l) words at number out from) refl refl (seated-good l words ok) (seated-twelve l))
+    let w = wrote bytes (maxScript - number) (standing 0 (seated l) words at number out from) refl refl (seated-good l words ok) (seated-twelve l) in
+    let few = held-settled (held-is l words ok) .few in
+    rw ok (record { lines = w .lines; place = w .place; out = w .out; whole = w .whole ∙ rest-seated l words bytes at number out from few })
+
+-- ---- the whole rehearsal
+
+-- the setup of a script, and the fresh run of it
+abbrev pub setupAt : List ℕ → SetupRead
+setupAt bytes = asSetup bytes (readSetup bytes 0)
+
+abbrev pub freshOf : List ℕ → Run
+freshOf bytes = fresh (setupAt bytes .plan) (take (setupAt bytes .plan .stations) (setupAt bytes .first))
+
+-- what `rehearse` prints, document 01, "One rehearsal in full": the first line; then, where the setup is accepted, the lines of
+-- the fresh run's events
+unfoldable pub rehearsal : List ℕ → List ℕ
+rehearsal bytes =
+    opening bytes .first ++ pick (eqb (opening bytes .answer) 0) (linesFrom maxScript bytes (opening bytes .next) 0 (freshOf bytes)) []
+
+-- an accepted setup begins the fresh run
+begun-run : (plan : Plan) (first words : List ℕ) → begun plan first .answer ≡ 0 → runOf (begun plan first .line) words ≡ fresh plan first
+unfolding begun
+begun-run plan first words = go (eqb (setupAnswer plan first) 0) refl
+  where
+    yes : Begun
+    yes = record { answer = 0; line = lineFor plan (plan .stations) (seatedTo first (plan .stations)) }
+
+    no : Begun
+    no = record { answer = setupAnswer plan first; line = lineFor noPlan 0 noStations }
+
+    go : (b : Bool) → eqb (setupAnswer plan first) 0 ≡ b → pick b yes no .answer ≡ 0 → runOf (pick b yes no .line) words ≡ fresh plan first
+    go true e z = fresh-run plan first words (eqb-true (setupAnswer plan first) 0 e)
+    go false e z = absurd (eqb-false (setupAnswer plan first) 0 e z)
+
+opened-run : (r : SetupRead) (words : List ℕ) → opened r .answer ≡ 0
+    → runOf (opened r .line) words ≡ fresh (r .plan) (take (r .plan .stations) (r .first))
+unfolding opened
+opened-run r words = one (eqb (r .answer) 1)
+  where
+    stopped : Opening
+    stopped = closed (r .answer) (r .next) (scriptLine (r .answer))
+
+    goes : Opening
+    goes = begins (r .next) (begun (r .plan) (take (r .plan .stations) (r .first)))
+
+    none : (b : Bool) → eqb (r .answer) 0 ≡ b → pick b goes stopped .answer ≡ 0
+        → runOf (pick b goes stopped .line) words ≡ fresh (r .plan) (take (r .plan .stations) (r .first))
+    none true e z = begun-run (r .plan) (take (r .plan .stations) (r .first)) words z
+    none false e z = absurd (eqb-false (r .answer) 0 e z)
+
+    one : (b : Bool) → pick b (closed 1 (r .next) (setupLine 1)) (pick (eqb (r .answer) 0) goes stopped) .answer ≡ 0
+        → runOf (pick b (closed 1 (r .next) (setupLine 1)) (pick (eqb (r .answer) 0) goes stopped) .line) words
+        ≡ fresh (r .plan) (take (r .plan .stations) (r .first))
+    one true z = absurd (omega arith)
+    one false z = none (eqb (r .answer) 0) refl z
+
+-- so does an opened script
+opening-run : (bytes words : List ℕ) → opening bytes .answer ≡ 0 → runOf (opening bytes .line) words ≡ freshOf bytes
+unfolding opening
+opening-run bytes words = long (ltb maxScript (length bytes))
+  where
+    long : (b : Bool) → pick b (closed 26 (length bytes) (scriptLine 26)) (opened (setupAt bytes)) .answer ≡ 0
+        → runOf (pick b (closed 26 (length bytes) (scriptLine 26)) (opened (setupAt bytes)) .line) words ≡ freshOf bytes
+    long true z = absurd (omega arith)
+    long false z = opened-run (setupAt bytes) words z
+
+-- the first line of an opened script, and what is still to be written then, are the rehearsal: with `part-lines`, so are the parts
+-- put together
+pub rehearsal-is : (bytes words out : List ℕ) (place : ℕ) → opening bytes .answer ≡ 0
+    → opening bytes .first ++ restOf bytes (standing 0 (opening bytes .line) words (opening bytes .next) 0 out place) ≡ rehearsal bytes
+unfolding rehearsal restOf
+rehearsal-is bytes words out place z = rw (z, opening-run bytes words z) refl
+
+-- a script that does not open has the first line alone
+pub rehearsal-stops : (bytes : List ℕ) → (opening bytes .answer ≡ 0 → ⊥) → rehearsal bytes ≡ opening bytes .first
+unfolding rehearsal
+rehearsal-stops bytes e = rw (ne-eqb (opening bytes .answer) 0 e) (append-nil (opening bytes .first))
