@@ -1,16 +1,15 @@
 -- Laws of a part of a script: seating a run keeps it, each event of a valid record goes by the private step, and the record
 -- stays valid, so one check is enough for all.
 use Prim.Native.Nat.{ℕ, zero, suc, _+_, _*_, _-_, _<_, _≤_}
-use mathlib.Core.Bool.{Bool, true, false, _&&_, _||_, not}
+use mathlib.Core.Bool.{true, false, _&&_, _||_, not}
 use mathlib.Core.List.{List, []}
 use mathlib.Core.Path.{_≡_, refl, ap, sym, subst, _∙_}
 use native.Mathlib.Numerals.{add-one}
 use native.Mathlib.Omega.{arith}
 use lib.Dec.{ltb, eqb}
-use lib.ListN.{length, getD, set, take}
+use lib.ListN.{length, set, take}
 use borrow.Author.Tests.{ltb-true, lt-ltb, le-ltb, eq-eqb, ne-eqb}
 use Rattle.clock.specs.Limits.{maxScript, maxFlight}
-use Rattle.clock.specs.Pick.{pick, refuse}
 use Rattle.clock.specs.Tests.{both}
 use Rattle.event.specs.declared.Event.{Event}
 use Rattle.number.specs.Number.{laid}
@@ -20,7 +19,7 @@ use Rattle.script.specs.declared.read.EventRead.{EventRead}
 use Rattle.script.specs.Read.{readSetup, asSetup}
 use Rattle.station.specs.declared.Station.{Station}
 use Rattle.line.specs.declared.Line.{Line}
-use Rattle.line.specs.Run.{Run, noStation}
+use Rattle.line.specs.Run.{Run}
 use Rattle.line.specs.Record.{badRecord}
 use Rattle.line.specs.Held.{firstOf, stationOf, runOf, badLine}
 use Rattle.line.specs.HeldLaws.{first-length, station-of}

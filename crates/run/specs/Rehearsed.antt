@@ -1,31 +1,29 @@
 -- The parts of a script put together are document 01's rehearsal: the lines that one part writes, and the lines of the rest from
 -- where it ends, are the lines of the whole. Each event's line is the model's, since the code holds the model's run.
 use Prim.Native.Nat.{ℕ, zero, suc, _+_, _-_, _≤_}
-use mathlib.Core.Bool.{Bool, true, false, _&&_}
+use mathlib.Core.Bool.{Bool, true, false}
 use mathlib.Core.List.{List, [], _++_, append-assoc, append-nil}
-use mathlib.Core.Path.{_≡_, refl, ap, ap₂, sym, subst, _∙_}
+use mathlib.Core.Path.{_≡_, refl, ap, ap₂, sym, _∙_}
 use native.Mathlib.Omega.{arith}
 use lib.Dec.{ltb, eqb}
 use lib.ListN.{length, take, length-append}
 use borrow.Author.Tests.{eqb-true, eqb-false, eq-eqb, ne-eqb}
 use Rattle.clock.specs.Limits.{maxScript}
 use Rattle.clock.specs.Pick.{pick}
-use Rattle.clock.specs.Tests.{both}
 use Rattle.setup.specs.declared.Plan.{Plan}
 use Rattle.setup.specs.Setup.{setupAnswer}
 use Rattle.event.specs.declared.Event.{Event}
 use Rattle.number.specs.Number.{laid}
 use Rattle.number.specs.Laws.{laid-none, laid-on}
 use Rattle.script.specs.declared.read.SetupRead.{SetupRead}
-use Rattle.script.specs.declared.read.EventRead.{EventRead}
 use Rattle.script.specs.Read.{readSetup, asSetup, readEvent, asEvent}
 use Rattle.line.specs.declared.Line.{Line}
-use Rattle.line.specs.Run.{Run, stationAt, fresh}
+use Rattle.line.specs.Run.{Run, fresh}
 use Rattle.line.specs.Event.{eventAnswer, step}
 use Rattle.line.specs.Held.{runOf, badLine}
 use Rattle.line.specs.declared.Begun.{Begun}
 use Rattle.line.specs.Fresh.{noStations, noPlan, lineFor, seatedTo, begun, fresh-run}
-use Rattle.text.specs.Text.{roundsTo, roundOf, eventLine, setupLine, scriptLine, roomy}
+use Rattle.text.specs.Text.{roundsTo, roundOf, eventLine, setupLine, scriptLine}
 use Rattle.run.specs.Play.{comes, playAnswer}
 use Rattle.run.specs.Play.{played as eventPlayed, playedWords}
 use Rattle.run.specs.Limits.{held-is, held-settled}

@@ -1,7 +1,5 @@
 -- `number::write_bytes` lays the bytes where there is room for them, and else answers 25 and writes nothing. Assumes nothing.
-use mathlib.Core.List.{List}
 use mathlib.Core.Path.{ap, _∙_}
-use Prim.Native.Nat.{ℕ}
 use native.Mathlib.Omega.{arith}
 use denote.Ref.{now}
 use lib.Seq.{take-length}

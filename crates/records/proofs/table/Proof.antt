@@ -1,8 +1,5 @@
 -- `records::table` fills twelve places. The measure is how many are left. Assumes nothing.
 use Prim.Native.Nat.{_-_, _≤_}
-use mathlib.Core.Path.{_≡_, refl, sym, _∙_}
-use native.Mathlib.Omega.{arith}
-use lib.ListN.{length}
 use borrow.Author.Needs.{needs}
 use Rattle.records.proofs.table.Statement.{statement}
 use Rattle.records.proofs.table.Tie as tie

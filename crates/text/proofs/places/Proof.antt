@@ -1,9 +1,9 @@
 -- `text::places` counts the digits: what is left of the number loses one digit a turn. The measure is what is left. Assumes
 -- nothing.
-use mathlib.Core.Path.{_≡_, refl, sym, _∙_}
+use mathlib.Core.Path.{refl, sym, _∙_}
 use native.Mathlib.Omega.{arith}
 use borrow.Author.Tests.{eq-eqb}
-use Rattle.text.specs.Laws.{Counted, counted-start, counted-room, counted-next}
+use Rattle.text.specs.Laws.{Counted, counted-start, counted-next}
 use Rattle.text.proofs.places.Statement.{statement}
 use Rattle.text.proofs.places.Tie as tie
 

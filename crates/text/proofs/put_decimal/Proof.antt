@@ -1,11 +1,11 @@
 -- `text::put_decimal` spells a number from its last digit on: each turn lays one more digit in front. The measure is how many
 -- are left. Assumes nothing.
-use Prim.Native.Nat.{ℕ, _+_, _≤_}
+use Prim.Native.Nat.{ℕ, _+_}
 use mathlib.Core.Path.{_≡_, ap, sym, _∙_}
 use native.Mathlib.Omega.{arith}
 use borrow.Author.Needs.{needs}
 use Rattle.number.specs.Number.{laid}
-use Rattle.text.specs.Text.{places, lastDigits, decimal}
+use Rattle.text.specs.Text.{places}
 use Rattle.text.specs.Laws.{laid-one, one-digit, places-few, Spelt, spelt-start, spelt-next, spelt-end}
 use Rattle.text.proofs.put_decimal.Statement.{statement}
 use Rattle.text.proofs.put_decimal.Tie as tie

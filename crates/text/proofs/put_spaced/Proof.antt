@@ -1,5 +1,4 @@
 -- `text::put_spaced` lays a space and a number behind it. Assumes nothing.
-use mathlib.Core.Path.{_≡_, _∙_}
 use native.Mathlib.Omega.{arith}
 use Rattle.text.specs.Text.{single, spaced, decimal}
 use Rattle.text.specs.Laws.{laid-both}

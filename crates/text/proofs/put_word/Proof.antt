@@ -1,6 +1,5 @@
 -- `text::put_word` lays the bytes where there is room for them. Assumes nothing.
 use mathlib.Core.Path.{refl, sym, _∙_}
-use native.Mathlib.Omega.{arith}
 use denote.Ref.{now}
 use Rattle.number.specs.Laws.{long}
 use borrow.Author.Needs.{needs}

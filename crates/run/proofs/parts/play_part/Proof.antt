@@ -1,7 +1,7 @@
 -- `run::play_part` plays one event after the other: what is still to be played from where it stands is what was to be played
 -- from the start, and the record stays valid. The measure is how many events may still come. Assumes nothing.
 use Prim.Native.Nat.{_-_}
-use mathlib.Core.Path.{_≡_, refl, ap, sym, _∙_}
+use mathlib.Core.Path.{ap, sym, _∙_}
 use native.Mathlib.Omega.{arith}
 use denote.Ref.{now}
 use lib.ListN.{length}
