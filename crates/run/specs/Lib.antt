@@ -1,5 +1,5 @@
 -- The three events as the code plays them: what each comes to, the limits within which nothing wraps, and the laws; then the
--- parts of a script, and the rehearsal that they are put together.
+-- parts of a script. Their rehearsal put together is `rehearsal`.
 pub mod Play
 pub mod Limits
 pub mod Sends
@@ -8,5 +8,3 @@ pub mod Advance
 pub mod Follows
 pub mod Part
 pub mod PartLaws
-pub mod Rehearsed
-pub mod Printed

@@ -17,8 +17,8 @@ use Rattle.line.specs.Record.{badFaulty, badStationAt, someStation, badContent,
 use Rattle.line.specs.Event.{takeOut, effect, exceedsAt, driftsAt, passesAt, unsignedAt, unsigned, full, eventRules, stepAnswer, eventAnswer, step}
 use Rattle.line.specs.Fresh.{begun}
 use Rattle.text.specs.Text.{placesFrom, places, lastDigits, decimal, spaced, roundOf, roundsTo, eventLine, told, setupLine, scriptLine}
 use Rattle.run.specs.Part.{opened, opening}
-use Rattle.run.specs.Rehearsed.{linesFrom, rehearsal}
+use Rattle.rehearsal.specs.Rehearsed.{linesFrom, rehearsal}
 
 -- the setup, then eight events
 abbrev script : List ℕ
