@@ -2,6 +2,7 @@
 //! makes scripts and records, and checks demand 3 on runs.
 
 mod bench;
+mod cases;
 mod check;
 mod line;
 mod make;
@@ -19,8 +20,8 @@ use std::io::{self, Read, Write};
 use std::process::ExitCode;
 
 const USAGE: &str = "second rehearse | single | make SEED COUNT DIR KIND | check FILE... \
-                     | pack SEED COUNT FILE KIND | records SEED COUNT FILE | replay FILE \
-                     | bench KIND EVENTS FILE";
+                     | pack SEED COUNT FILE KIND | records SEED COUNT FILE \
+                     | cases FILE OUT | replay FILE | bench KIND EVENTS FILE";
 
 fn main() -> ExitCode {
     let words: Vec<String> = std::env::args().skip(1).collect();
@@ -85,6 +86,10 @@ fn run(words: &[&str]) -> Result<(), String> {
         }
         ["records", seed, count, file] => {
             fs::write(file, records::records(whole(seed)?, whole(count)?)).map_err(told)?;
+        }
+        ["cases", file, out] => {
+            let text = fs::read_to_string(file).map_err(told)?;
+            fs::write(out, cases::cases(&text)?).map_err(told)?;
         }
         ["replay", file] => {
             let bytes = fs::read(file).map_err(told)?;

@@ -10,7 +10,7 @@ use crate::setup::Setup;
 const READ: u64 = 16;
 
 /// A record as it was read, and the event or question asked of it.
-#[derive(Clone, Debug)]
+#[derive(Clone, Debug, PartialEq, Eq)]
 pub struct Record {
     pub setup: Setup,
     pub time: u64,

@@ -1,6 +1,7 @@
 //! Document 01's values, forms, slips and sizes, and the makers' own promises.
 
 use crate::bench;
+use crate::cases::cases;
 use crate::check::{check, Watch};
 use crate::line::{Line, Reading, READY, RELAY};
 use crate::make::{self, Play, Random};
@@ -607,6 +608,44 @@ fn scripts_for_measuring() {
         }
     }
     assert_eq!(bench::script("other", 1), None);
+}
+
+#[test]
+fn cases_are_played_and_packed() {
+    let text = "# a plan and two stations
+record pair is empty, setup 2 0 0 2 2 4 7 0, stations 2, station 0: 0 4 0 0, station 1: 0 5 0 0
+
+to the mark: 0, time 2, station 1 in round 1 at 11, in flight 2
+    pair; advance 2: 2 2
+past the mark: 14, unchanged
+    pair; advance 3: 3 3
+n 3: 10, unchanged
+    pair, n 3; advance 1: 1 1 1
+1025 in flight: 10, flight 0
+    pair, crowd 1024, count 1025; flight
+lead: 0, lead -1
+    pair; lead 0 1
+a script: setup 0, 0, 16
+    script 2 0 0 2 2 4 7 0 4 5; advance 2: 2 2; deliver 0 1 1 0
+";
+    let packed = cases(text).unwrap();
+    let kinds: Vec<u8> = pieces(&packed).map(|(kind, _)| kind).collect();
+    assert_eq!(kinds, [1, 1, 1, 1, 1, 0]);
+    let first = pieces(&packed).next().unwrap().1;
+    assert_eq!(first, [2, 0, 0, 2, 2, 4, 7, 0, 0, 2, 0, 4, 0, 0, 0, 5, 0, 0, 0, 1, 2, 2, 2, 2]);
+    // Another answer, an unknown record, word or event, and a title with nothing below it.
+    for (old, new) in [
+        ("14, unchanged", "13, unchanged"),
+        ("at 11", "at 12"),
+        ("setup 0, 0, 16", "setup 0, 0"),
+        ("    pair; lead", "    three; lead"),
+        ("pair, n 3", "pair, m 3"),
+        ("flight\n", "fly\n"),
+        ("deliver 0 1 1 0", "deliver 0 1 1"),
+        ("    pair; lead 0 1\n", ""),
+    ] {
+        assert!(text.contains(old) && cases(&text.replacen(old, new, 1)).is_err(), "{old}");
+    }
 }
 
 /// Twelve stations, ten thousand events: prints the time of each event.
