@@ -1,14 +1,6 @@
 // Plays a script and prints what each station does on standard output: the setup's answer, then a line for each event. What is
 // printed is made in `run`; here it is handed on in large pieces.
-use libc::STDOUT_FILENO;
 use run::Part;
-
-// Prints the first `count` bytes.
-pub fn print(out: &[u8], count: usize) {
-    if count <= out.len() {
-        io::write_all(STDOUT_FILENO, &out[..count]);
-    }
-}
 
 // Plays an opened script part by part and prints each. A part holds one event at least, so there are no more than bytes.
 fn play(bytes: &[u8], opened: Part, words: &mut [u64], out: &mut [u8]) {
@@ -17,7 +9,7 @@ fn play(bytes: &[u8], opened: Part, words: &mut [u64], out: &mut [u8]) {
     while parts < clock::MAX_SCRIPT {
         let line = part.line;
         part = run::play_part(line, words, bytes, part.next, part.number, out, part.place);
-        print(out, part.place);
+        paper::print(out, part.place);
         part.place = 0;
         if (part.answer != 0) | (part.next >= bytes.len()) {
             return;
@@ -32,7 +24,7 @@ pub fn rehearse(bytes: &[u8]) {
     let mut out = io::large_buffer();
     let opened = run::open(bytes, &mut out);
     if opened.answer != 0 {
-        print(&out, opened.place);
+        paper::print(&out, opened.place);
         return;
     }
     play(bytes, opened, &mut words, &mut out);

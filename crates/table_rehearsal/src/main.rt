@@ -28,7 +28,7 @@ fn show(number: u64, turned: Turned) {
     let rest = answered.rest;
     let seats = turned.seats;
     let count = text::event_line(number, answered.answer, line_of(rest, seats), &mut out, 0);
-    player::print(&out, count);
+    paper::print(&out, count);
 }
 
 // An event on the table, and its line.
@@ -94,7 +94,7 @@ fn main() {
     let answered = begun.answered;
     let mut out = [0u8; 320];
     let count = text::setup_line(answered.answer, &mut out, 0);
-    player::print(&out, count);
+    paper::print(&out, count);
     let mut words = [0u64; 3072];
     let one = advance(1, begun, &mut words, 2);
     let two = advance(2, one, &mut words, 3);

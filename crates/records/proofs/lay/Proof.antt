@@ -7,10 +7,13 @@ use Rattle.records.proofs.lay.Statement.{statement}
 use Rattle.records.proofs.lay.Tie as tie
 
 abbrev Inv-loop : tie.InvT-loop
-Inv-loop sheet count words₀ bad₀ i₀ words bad i = length words ≡ length words₀
+Inv-loop sheet words₀ end bad₀ i₀ words bad i = length words ≡ length words₀
 
 abbrev μ-loop : tie.MeasureT-loop
-μ-loop sheet count words₀ bad₀ i₀ words bad i = count - i
+μ-loop sheet words₀ end bad₀ i₀ words bad i = end - i
+
+count-requires : tie.Need-count-requires Inv-loop μ-loop
+count-requires c κs = tt
 
 loop-holds : tie.Need-loop-holds Inv-loop μ-loop
 loop-holds c = search needs
@@ -39,6 +42,7 @@ lay-spec =
     (tie.spec
     Inv-loop
     μ-loop
+    count-requires
     loop-holds
     lay-at-requires
     add-i

@@ -10,14 +10,14 @@ Inv-loop sheet table₀ i₀ table i = i ≤ 12
 abbrev μ-loop : tie.MeasureT-loop
 μ-loop sheet table₀ i₀ table i = 12 - i
 
-station-at-requires : tie.Need-station-at-requires Inv-loop μ-loop
-station-at-requires c κs = tt
+no-station-requires : tie.Need-no-station-requires Inv-loop μ-loop
+no-station-requires c κs = tt
 
 loop-holds : tie.Need-loop-holds Inv-loop μ-loop
 loop-holds c = search needs
 
-station-at-requires-2 : tie.Need-station-at-requires-2 Inv-loop μ-loop
-station-at-requires-2 c κs = tt
+station-at-requires : tie.Need-station-at-requires Inv-loop μ-loop
+station-at-requires c κs = tt
 
 mul-table : tie.Need-mul-table Inv-loop μ-loop
 mul-table c = search needs
@@ -43,9 +43,9 @@ table-spec =
     (tie.spec
     Inv-loop
     μ-loop
-    station-at-requires
+    no-station-requires
     loop-holds
-    station-at-requires-2
+    station-at-requires
     mul-table
     array-set-from-table
     add-i

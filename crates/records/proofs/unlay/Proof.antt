@@ -7,10 +7,13 @@ use Rattle.records.proofs.unlay.Statement.{statement}
 use Rattle.records.proofs.unlay.Tie as tie
 
 abbrev Inv-loop : tie.InvT-loop
-Inv-loop words count sheet₀ i₀ sheet i = length sheet ≡ length sheet₀
+Inv-loop words sheet₀ end i₀ sheet i = length sheet ≡ length sheet₀
 
 abbrev μ-loop : tie.MeasureT-loop
-μ-loop words count sheet₀ i₀ sheet i = count - i
+μ-loop words sheet₀ end i₀ sheet i = end - i
+
+count-requires : tie.Need-count-requires Inv-loop μ-loop
+count-requires c κs = tt
 
 loop-holds : tie.Need-loop-holds Inv-loop μ-loop
 loop-holds c = search needs
@@ -42,6 +45,7 @@ unlay-spec =
     (tie.spec
     Inv-loop
     μ-loop
+    count-requires
     loop-holds
     message-at-requires
     unlay-at-requires

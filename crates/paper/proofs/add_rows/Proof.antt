@@ -1,10 +1,10 @@
--- `records::show_rows` prints one row after the other while the buffer keeps its length. The measure is how many are left. Assumes nothing.
+-- `paper::add_rows` prints one row after the other while the buffer keeps its length. The measure is how many are left. Assumes nothing.
 use Prim.Native.Nat.{_-_}
 use mathlib.Core.Path.{_≡_}
 use lib.ListN.{length}
 use borrow.Author.Needs.{needs}
-use Rattle.records.proofs.show_rows.Statement.{statement}
-use Rattle.records.proofs.show_rows.Tie as tie
+use Rattle.paper.proofs.add_rows.Statement.{statement}
+use Rattle.paper.proofs.add_rows.Tie as tie
 
 abbrev Inv-loop : tie.InvT-loop
 Inv-loop word sheet start width count out₀ place next₀ from₀ i₀ t12 out next from i = length out ≡ length out₀
@@ -48,8 +48,8 @@ same-length c = search needs
 returns : tie.Need-returns Inv-loop μ-loop
 returns c = tt
 
-pub show-rows-spec : {M : Type 1} → statement M
-show-rows-spec =
+pub add-rows-spec : {M : Type 1} → statement M
+add-rows-spec =
     tie.close
     (tie.spec
     Inv-loop

@@ -1,9 +1,9 @@
--- `player::print` lends the first bytes of the buffer. Assumes nothing.
+-- `paper::print` lends the first bytes of the buffer. Assumes nothing.
 use mathlib.Core.Path.{sym}
 use lib.Seq.{length-take-le}
 use borrow.Author.Needs.{needs}
-use Rattle.player.proofs.print.Statement.{statement}
-use Rattle.player.proofs.print.Tie as tie
+use Rattle.paper.proofs.print.Statement.{statement}
+use Rattle.paper.proofs.print.Tie as tie
 
 slice-aggregate-write-all : tie.Need-slice-aggregate-write-all
 slice-aggregate-write-all c = sym (length-take-le _ _ (c .before .if1 .taken))
