@@ -16,15 +16,15 @@ use denote.Struct.Laws as LL
 use denote.Triple.Spec.{tripleOf}
 use denote.Triple.Statement.{Contract}
 use Rattle.station.specs.declared.Station.{Station}
-use Rattle.table.specs.declared.Answered.{Answered}
+use Rattle.seating.specs.declared.Answered.{Answered}
 use Rattle.table.specs.declared.Seats.{Seats}
-use Rattle.table.proofs.Answered as B
-use Rattle.table.proofs.Answered.Laws as B′
+use Rattle.seating.proofs.Answered as B
+use Rattle.seating.proofs.Answered.Laws as B′
 use Rattle.table.proofs.Seats as O
 use Rattle.table.proofs.Seats.Laws as O′
-use Rattle.table.proofs.Stations.{R, makes}
+use Rattle.seating.specs.Stations.{R, makes}
 use Rattle.table.proofs.Parts.{Twelve}
-use Rattle.table.proofs.Calls.{asks}
+use Rattle.seating.specs.Calls.{asks}
 use Rattle.table.proofs.lent_places as lent-places
 use Rattle.table.proofs.places as places
 use Rattle.table.proofs.turn as turn

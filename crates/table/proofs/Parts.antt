@@ -32,7 +32,7 @@ use denote.Struct.Laws as LL
 use Rattle.station.specs.declared.Station.{Station}
 use Rattle.station.proofs.Station as S
 use Rattle.station.proofs.Station.Laws as S′
-use Rattle.table.proofs.Stations.{R, vals, val, tells, makes}
+use Rattle.seating.specs.Stations.{R, vals, val, tells, makes}
 
 module _ {M : Type 1} (𝓤 : URA M) (H : Heap 𝓤) (A : Atoms 𝓤) (W : Given 𝓤 H A) where
   parted : (xs ys : List Station) (b o : ℕ) → ent 𝓤 (sem 𝓤 H A (row R fullShare (xs ++ ys) b o)) (sep 𝓤 (sem 𝓤 H A (row R fullShare xs b o))

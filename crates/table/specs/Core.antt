@@ -1,84 +1,25 @@
--- The run that goes by value, as the walks over the table call it: the record that the stations are taken into, and what comes
--- of it.
-use Prim.Native.Nat.{ℕ, _+_}
+-- The run that goes by value, as the walks over the table call it: what a fresh run and a question come to on the record that the
+-- stations are taken into.
+use Prim.Native.Nat.{ℕ}
 use mathlib.Core.Bool.{Bool, true, false}
 use mathlib.Core.List.{List}
 use mathlib.Core.Path.{_≡_, refl, ap, sym, _∙_}
-use native.Mathlib.Numerals.{add-one}
 use lib.Dec.{eqb}
-use lib.ListN.{length, getD, set}
 use borrow.Author.Tests.{eq-eqb, ne-eqb, eqb-true}
 use Rattle.clock.specs.Pick.{pick}
 use Rattle.setup.specs.Setup.{setupAnswer}
-use Rattle.station.specs.declared.Station.{Station}
 use Rattle.line.specs.declared.Line.{Line}
 use Rattle.line.specs.declared.Shown.{Shown}
 use Rattle.line.specs.declared.Led.{Led}
 use Rattle.line.specs.declared.InFlight.{InFlight}
-use Rattle.line.specs.Run.{noStation}
 use Rattle.line.specs.declared.Begun.{Begun}
-use Rattle.line.specs.Fresh.{noPlan, noStations, lineFor, seatedTo}
-use Rattle.line.specs.Fresh.{begun}
+use Rattle.line.specs.Fresh.{noPlan, lineFor, seatedTo, begun}
 use Rattle.line.specs.Question.{shown, led, inFlight}
 use Rattle.run.specs.declared.Played.{Played}
-use Rattle.run.specs.Play.{placedTo}
-use Rattle.table.specs.declared.Rest.{Rest}
-use Rattle.table.specs.declared.Answered.{Answered}
 use Rattle.table.specs.declared.Question.{Question}
 use Rattle.table.specs.declared.Question.the-variants as asks
 use Rattle.table.specs.declared.Told.{Told}
 use Rattle.table.specs.declared.Told.the-variants as tells
-
--- the record of a run with these stations in its places, taken from a table of so many
-abbrev pub seatedIn : Rest → ℕ → List Station → Line
-seatedIn rest many stations = record {
-  plan = rest .plan;
-  time = rest .time;
-  length = many;
-  stations = stations;
-  count = rest .count;
-}
-
-abbrev pub withStation : Line → ℕ → Station → Line
-withStation l i s = record {
-  plan = l .plan;
-  time = l .time;
-  length = l .length;
-  stations = set (l .stations) i s;
-  count = l .count;
-}
-
--- the first k stations of the table are taken out
-unfoldable pub lineTo : Rest → List Station → ℕ → Line
-lineTo rest table k = seatedIn rest (length table) (placedTo noStations table k)
-
-abbrev pub lineOf : Rest → List Station → Line
-lineOf rest table = lineTo rest table 12
-
-pub line-none : (rest : Rest) (table : List Station) → seatedIn rest (length table) noStations ≡ lineTo rest table 0
-unfolding lineTo placedTo
-line-none rest table = refl
-
-pub line-more : (rest : Rest) (table : List Station) (k : ℕ) → withStation (lineTo rest table k) k (getD table k noStation) ≡ lineTo rest table (k + 1)
-unfolding lineTo placedTo
-line-more rest table k = rw add-one refl
-
--- one station more is put back
-pub placed-more : (table stations : List Station) (k : ℕ) {zs : List Station} {s : Station} → zs ≡ set (placedTo table stations k) k s
-    → s ≡ getD stations k noStation → zs ≡ placedTo table stations (k + 1)
-unfolding placedTo
-placed-more table stations k e f = e ∙ ap (set (placedTo table stations k) k) f ∙ rw add-one refl
-
-pub placed-none : (table stations : List Station) → table ≡ placedTo table stations 0
-unfolding placedTo
-placed-none table stations = refl
-
--- the answer, and what the run has beside its stations
-abbrev pub answeredOf : Played → Answered
-answeredOf p = record {
-  answer = p .answer;
-  rest = record { plan = p .line .plan; time = p .line .time; count = p .line .count };
-}
 
 -- ---- a fresh run
 

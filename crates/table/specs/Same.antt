@@ -40,13 +40,14 @@ use Rattle.run.specs.Play.{placedTo, holding, comes, comesWords, playAnswer}
 use Rattle.run.specs.Play as core
 use Rattle.run.specs.Limits.{Held, held-is}
 use Rattle.run.specs.Follows.{placed-length, placed-at, first-placed, Kept, playsAll, play-answer, play-run, play-keeps, plays-all}
-use Rattle.table.specs.declared.Rest.{Rest}
-use Rattle.table.specs.declared.Answered.{Answered}
+use Rattle.seating.specs.declared.Rest.{Rest}
+use Rattle.seating.specs.declared.Answered.{Answered}
 use Rattle.table.specs.declared.Question.{Question}
 use Rattle.table.specs.declared.Question.the-variants as asks
 use Rattle.table.specs.declared.Told.the-variants as tells
 use Rattle.table.specs.Table.{tableRun, badTable, restOf, tableAnswer, played, playedTable, playedWords, starting, freshAnswer, begun, begunTable, questionAnswer}
-use Rattle.table.specs.Core.{lineTo, lineOf, answeredOf, begins, picked, told, numberOf}
+use Rattle.seating.specs.Seating.{lineTo, lineOf, answeredOf}
+use Rattle.table.specs.Core.{begins, picked, told, numberOf}
 
 -- ---- putting back
 

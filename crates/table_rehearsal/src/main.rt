@@ -2,8 +2,8 @@
 use clock::Moment;
 use event::Event;
 use line::Line;
+use seating::Rest;
 use setup::Plan;
-use table::Rest;
 use table::Seats;
 use table::Turned;
 

@@ -38,23 +38,24 @@ use Rattle.station.specs.declared.Station.{Station}
 use Rattle.line.specs.declared.Line.{Line}
 use Rattle.line.proofs.Line as L
 use Rattle.line.proofs.Line.Laws as L′
-use Rattle.table.specs.declared.Rest.{Rest}
+use Rattle.seating.specs.declared.Rest.{Rest}
 use Rattle.table.specs.declared.Question.{Question}
 use Rattle.table.specs.declared.Told.{Told}
-use Rattle.table.specs.Core.{lineOf, told}
-use Rattle.table.proofs.Rest as N
-use Rattle.table.proofs.Rest.Laws as N′
+use Rattle.seating.specs.Seating.{lineOf}
+use Rattle.table.specs.Core.{told}
+use Rattle.seating.proofs.Rest as N
+use Rattle.seating.proofs.Rest.Laws as N′
 use Rattle.table.proofs.Question as Q
 use Rattle.table.proofs.Question.Laws as Q′
 use Rattle.table.proofs.Told as B
 use Rattle.table.proofs.Told.Laws as B′
-use Rattle.table.proofs.Stations.{R}
-use Rattle.table.proofs.Calls.{gives}
+use Rattle.seating.specs.Stations.{R}
+use Rattle.seating.specs.Calls.{gives}
 use Rattle.table.proofs.Through.{Load, to-load, asks-load}
-use Rattle.table.proofs.load as load′
-use Rattle.table.proofs.load.Symbol as load-def
-use Rattle.table.proofs.load.Symbol.{name as #table·load}
-use Rattle.table.proofs.load.Met as load-thm
+use Rattle.seating.proofs.load as load′
+use Rattle.seating.proofs.load.Symbol as load-def
+use Rattle.seating.proofs.load.Symbol.{name as #seating·load}
+use Rattle.seating.proofs.load.Met as load-thm
 use Rattle.table.proofs.tell as tell
 use Rattle.table.proofs.tell.Symbol as tell-def
 use Rattle.table.proofs.tell.Symbol.{name as #table·tell}
@@ -130,7 +131,7 @@ module _ {M : Type 1} (𝓤 : URA M) (H : Heap 𝓤) (A : Atoms 𝓤) (W : Given
       owned ! L.the-row (Is L.the-row) (LL.makes L.the-type L′.the-plain 𝓤 H A) l (w ∷ []) p $ fjoin ! $ nothing ! $ move ! (2 ∷ 0 ∷ []) $ join ! $
       join ! $ frame ! $ done !
 
-  module _ (C : Calls 𝓤 H) (Λ : Loops 𝓤 H) (fm : FmC 𝓤 H (W .laws) C) (load-met : Triple 𝓤 (C #table·load) (Load 𝓤 H A mem run))
+  module _ (C : Calls 𝓤 H) (Λ : Loops 𝓤 H) (fm : FmC 𝓤 H (W .laws) C) (load-met : Triple 𝓤 (C #seating·load) (Load 𝓤 H A mem run))
       (tell-met : Triple 𝓤 (C #table·tell) (Tell 𝓤 H A mem run)) where
     walk : ent 𝓤 (onEntry 𝓤 H A ask.signature (κ, (κ′, tt)) (q, (q′, tt)) a at) (WpFn 𝓤 H C Λ code.function (rest-val rest ∷ sliceVal (x .ptr)
         (length (x .now)) ∷ sliceVal (words .ptr) (length (words .now)) ∷ question-val question ∷ []) Post)
@@ -167,7 +168,7 @@ module _ {M : Type 1} (𝓤 : URA M) (H : Heap 𝓤) (A : Atoms 𝓤) (W : Given
         by ! (exits r v (f ∙ ap (λ (m : Line). told m (words .now) question) e) tells-it)))))))))))
 
 module _ {M : Type 1} (𝓤 : URA M) (H : Heap 𝓤) (A : Atoms 𝓤) (W : Given 𝓤 H A) (mem : Memory → SProp 𝓤) (run : Routine → Fun 𝓤) (𝓣 : Tables 𝓤 H)
-    (load-met : Triple 𝓤 (𝓣 .C #table·load) (Load 𝓤 H A mem run)) (tell-met : Triple 𝓤 (𝓣 .C #table·tell) (Tell 𝓤 H A mem run)) where
+    (load-met : Triple 𝓤 (𝓣 .C #seating·load) (Load 𝓤 H A mem run)) (tell-met : Triple 𝓤 (𝓣 .C #table·tell) (Tell 𝓤 H A mem run)) where
   ask-walks : Walks 𝓤 H A ask.ended stayed (WpFn 𝓤 H (𝓣 .C) (𝓣 .Λ) code.function) (ask.clauses 𝓤 H A mem run)
   ask-walks = walked 𝓤 H A ask.ended stayed (ask.clauses 𝓤 H A mem run) (WpFn 𝓤 H (𝓣 .C) (𝓣 .Λ) code.function)
       (λ κs. (LL.vals N.the-type N′.the-laws, (slice-vals, (slice-vals, (EL.vals Q.the-type Q′.the-laws, tt)))))
@@ -206,5 +207,5 @@ ask-spec 𝓤 H 𝓜 𝓖 𝓡 =
     entered 𝓤 H (tripleOf 𝓤 H (𝓖 .A) ask.signature (ask.spec 𝓤 H (𝓖 .A) (𝓜 .mem) (𝓡 .run)))
     (tables 𝓤 H 𝓜 𝓡 code.env .C) (tables 𝓤 H 𝓜 𝓡 code.env .Λ) #table·ask code.function (code.unfolded 𝓤 H 𝓜 𝓡)
     (ask-meets 𝓤 H (𝓖 .A) (givenOf 𝓤 H 𝓜 𝓖) (𝓜 .mem) (𝓡 .run) (tablesOf 𝓤 H 𝓜 (tables 𝓤 H 𝓜 𝓡 code.env))
-    (cited 𝓤 H (Load 𝓤 H (𝓖 .A) (𝓜 .mem) (𝓡 .run)) 𝓜 𝓡 code.env #table·load load-def.routine code.calls-table·load (load-thm.met 𝓤 H 𝓜 𝓖 𝓡))
+    (cited 𝓤 H (Load 𝓤 H (𝓖 .A) (𝓜 .mem) (𝓡 .run)) 𝓜 𝓡 code.env #seating·load load-def.routine code.calls-seating·load (load-thm.met 𝓤 H 𝓜 𝓖 𝓡))
     (cited 𝓤 H (Tell 𝓤 H (𝓖 .A) (𝓜 .mem) (𝓡 .run)) 𝓜 𝓡 code.env #table·tell tell-def.routine code.calls-table·tell (tell-thm.met 𝓤 H 𝓜 𝓖 𝓡)))

@@ -47,35 +47,36 @@ use Rattle.run.specs.declared.Played.{Played}
 use Rattle.run.specs.Play.{placedTo}
 use Rattle.run.proofs.Played as P
 use Rattle.run.proofs.Played.Laws as P′
-use Rattle.table.specs.declared.Rest.{Rest}
-use Rattle.table.specs.declared.Answered.{Answered}
+use Rattle.seating.specs.declared.Rest.{Rest}
+use Rattle.seating.specs.declared.Answered.{Answered}
 use Rattle.table.specs.Table as lent
-use Rattle.table.specs.Core.{lineOf, answeredOf, begins}
+use Rattle.seating.specs.Seating.{lineOf, answeredOf}
+use Rattle.table.specs.Core.{begins}
 use Rattle.table.specs.Same.{fresh-comes}
-use Rattle.table.proofs.Rest as N
-use Rattle.table.proofs.Rest.Laws as N′
-use Rattle.table.proofs.Answered as B
-use Rattle.table.proofs.Answered.Laws as B′
-use Rattle.table.proofs.Stations.{R}
-use Rattle.table.proofs.Calls.{asks, gives, gives-lasts}
-use Rattle.table.proofs.Lending.{named-table, slice, shares-table, shared-home}
+use Rattle.seating.proofs.Rest as N
+use Rattle.seating.proofs.Rest.Laws as N′
+use Rattle.seating.proofs.Answered as B
+use Rattle.seating.proofs.Answered.Laws as B′
+use Rattle.seating.specs.Stations.{R}
+use Rattle.seating.specs.Calls.{asks, gives, gives-lasts}
+use Rattle.seating.specs.Lending.{named-table, slice, shares-table, shared-home}
 use Rattle.table.proofs.Through.{Load, to-load, asks-load, Store, to-store, asks-store}
 use Rattle.table.proofs.starting as starting
 use Rattle.table.proofs.starting.Symbol as starting-def
 use Rattle.table.proofs.starting.Symbol.{name as #table·starting}
 use Rattle.table.proofs.starting.Met as starting-thm
-use Rattle.table.proofs.load as load′
-use Rattle.table.proofs.load.Symbol as load-def
-use Rattle.table.proofs.load.Symbol.{name as #table·load}
-use Rattle.table.proofs.load.Met as load-thm
+use Rattle.seating.proofs.load as load′
+use Rattle.seating.proofs.load.Symbol as load-def
+use Rattle.seating.proofs.load.Symbol.{name as #seating·load}
+use Rattle.seating.proofs.load.Met as load-thm
 use Rattle.table.proofs.begin as begin
 use Rattle.table.proofs.begin.Symbol as begin-def
 use Rattle.table.proofs.begin.Symbol.{name as #table·begin}
 use Rattle.table.proofs.begin.Met as begin-thm
-use Rattle.table.proofs.store as store′
-use Rattle.table.proofs.store.Symbol as store-def
-use Rattle.table.proofs.store.Symbol.{name as #table·store}
-use Rattle.table.proofs.store.Met as store-thm
+use Rattle.seating.proofs.store as store′
+use Rattle.seating.proofs.store.Symbol as store-def
+use Rattle.seating.proofs.store.Symbol.{name as #seating·store}
+use Rattle.seating.proofs.store.Met as store-thm
 use Rattle.table.proofs.fresh.Key.{name as #table·fresh}
 use Rattle.table.proofs.fresh as fresh
 use Rattle.table.proofs.fresh.Statement as stated
@@ -165,8 +166,8 @@ module _ {M : Type 1} (𝓤 : URA M) (H : Heap 𝓤) (A : Atoms 𝓤) (W : Given
       nothing ! $ move ! (2 ∷ 0 ∷ []) $ join ! $ join ! $ frame ! $ done !
 
   module _ (C : Calls 𝓤 H) (Λ : Loops 𝓤 H) (fm : FmC 𝓤 H (W .laws) C) (starting-met : Triple 𝓤 (C #table·starting) (Starting 𝓤 H A mem run))
-      (load-met : Triple 𝓤 (C #table·load) (Load 𝓤 H A mem run))
-      (begin-met : Triple 𝓤 (C #table·begin) (Begin 𝓤 H A mem run)) (store-met : Triple 𝓤 (C #table·store) (Store 𝓤 H A mem run)) where
+      (load-met : Triple 𝓤 (C #seating·load) (Load 𝓤 H A mem run))
+      (begin-met : Triple 𝓤 (C #table·begin) (Begin 𝓤 H A mem run)) (store-met : Triple 𝓤 (C #seating·store) (Store 𝓤 H A mem run)) where
     abbrev passed : List Val
     passed = plan-val plan ∷ sliceVal (firsts .ptr) (length (firsts .now)) ∷ sliceVal (b, o) (length ys) ∷ []
 
@@ -225,8 +226,8 @@ module _ {M : Type 1} (𝓤 : URA M) (H : Heap 𝓤) (A : Atoms 𝓤) (W : Given
         (stored .0) (stored .1)) r-is)))))))))))))))))))))))
 
 module _ {M : Type 1} (𝓤 : URA M) (H : Heap 𝓤) (A : Atoms 𝓤) (W : Given 𝓤 H A) (mem : Memory → SProp 𝓤) (run : Routine → Fun 𝓤) (𝓣 : Tables 𝓤 H)
-    (starting-met : Triple 𝓤 (𝓣 .C #table·starting) (Starting 𝓤 H A mem run)) (load-met : Triple 𝓤 (𝓣 .C #table·load) (Load 𝓤 H A mem run))
-    (begin-met : Triple 𝓤 (𝓣 .C #table·begin) (Begin 𝓤 H A mem run)) (store-met : Triple 𝓤 (𝓣 .C #table·store) (Store 𝓤 H A mem run)) where
+    (starting-met : Triple 𝓤 (𝓣 .C #table·starting) (Starting 𝓤 H A mem run)) (load-met : Triple 𝓤 (𝓣 .C #seating·load) (Load 𝓤 H A mem run))
+    (begin-met : Triple 𝓤 (𝓣 .C #table·begin) (Begin 𝓤 H A mem run)) (store-met : Triple 𝓤 (𝓣 .C #seating·store) (Store 𝓤 H A mem run)) where
   fresh-walks : Walks 𝓤 H A fresh.ended stayed (WpFn 𝓤 H (𝓣 .C) (𝓣 .Λ) code.function) (fresh.clauses 𝓤 H A mem run)
   fresh-walks = walked 𝓤 H A fresh.ended stayed (fresh.clauses 𝓤 H A mem run) (WpFn 𝓤 H (𝓣 .C) (𝓣 .Λ) code.function)
       (λ κs. (LL.vals D.the-type D′.the-laws, (slice-vals, (slice-vals, tt)))) (λ κs. (
@@ -261,6 +262,6 @@ fresh-spec 𝓤 H 𝓜 𝓖 𝓡 =
     (fresh-meets 𝓤 H (𝓖 .A) (givenOf 𝓤 H 𝓜 𝓖) (𝓜 .mem) (𝓡 .run) (tablesOf 𝓤 H 𝓜 (tables 𝓤 H 𝓜 𝓡 code.env))
     (cited 𝓤 H (Starting 𝓤 H (𝓖 .A) (𝓜 .mem) (𝓡 .run)) 𝓜 𝓡 code.env #table·starting starting-def.routine code.calls-table·starting
     (starting-thm.met 𝓤 H 𝓜 𝓖 𝓡))
-    (cited 𝓤 H (Load 𝓤 H (𝓖 .A) (𝓜 .mem) (𝓡 .run)) 𝓜 𝓡 code.env #table·load load-def.routine code.calls-table·load (load-thm.met 𝓤 H 𝓜 𝓖 𝓡))
+    (cited 𝓤 H (Load 𝓤 H (𝓖 .A) (𝓜 .mem) (𝓡 .run)) 𝓜 𝓡 code.env #seating·load load-def.routine code.calls-seating·load (load-thm.met 𝓤 H 𝓜 𝓖 𝓡))
     (cited 𝓤 H (Begin 𝓤 H (𝓖 .A) (𝓜 .mem) (𝓡 .run)) 𝓜 𝓡 code.env #table·begin begin-def.routine code.calls-table·begin (begin-thm.met 𝓤 H 𝓜 𝓖 𝓡))
-    (cited 𝓤 H (Store 𝓤 H (𝓖 .A) (𝓜 .mem) (𝓡 .run)) 𝓜 𝓡 code.env #table·store store-def.routine code.calls-table·store (store-thm.met 𝓤 H 𝓜 𝓖 𝓡)))
+    (cited 𝓤 H (Store 𝓤 H (𝓖 .A) (𝓜 .mem) (𝓡 .run)) 𝓜 𝓡 code.env #seating·store store-def.routine code.calls-seating·store (store-thm.met 𝓤 H 𝓜 𝓖 𝓡)))

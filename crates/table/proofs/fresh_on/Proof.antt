@@ -46,15 +46,15 @@ use Rattle.table.specs.declared.Seats.{Seats}
 use Rattle.table.specs.declared.Turned.{Turned}
 use Rattle.table.specs.Table as lent
 use Rattle.table.specs.Table.{many, many-few, on-comes}
-use Rattle.table.proofs.Answered as B
-use Rattle.table.proofs.Answered.Laws as B′
+use Rattle.seating.proofs.Answered as B
+use Rattle.seating.proofs.Answered.Laws as B′
 use Rattle.table.proofs.Seats as O
 use Rattle.table.proofs.Seats.Laws as O′
 use Rattle.table.proofs.Turned as F
 use Rattle.table.proofs.Turned.Laws as F′
-use Rattle.table.proofs.Stations.{R}
+use Rattle.seating.specs.Stations.{R}
 use Rattle.table.proofs.Parts.{twelve-typed, part-of, lends-part, part-home}
-use Rattle.table.proofs.Calls.{gives, gives-lasts}
+use Rattle.seating.specs.Calls.{gives, gives-lasts}
 use Rattle.table.proofs.Own.{LentPlaces, to-lent, asks-lent, Places, to-places, asks-places, Turn, to-turn, asks-turn}
 use Rattle.table.proofs.lent_places as lent-places
 use Rattle.table.proofs.lent_places.Symbol as lent-places-def

@@ -53,27 +53,27 @@ use Rattle.run.proofs.play as core-play
 use Rattle.run.proofs.play.Symbol as core-play-def
 use Rattle.run.proofs.play.Symbol.{name as #run·play}
 use Rattle.run.proofs.play.Met as core-play-thm
-use Rattle.table.specs.declared.Rest.{Rest}
-use Rattle.table.specs.declared.Answered.{Answered}
+use Rattle.seating.specs.declared.Rest.{Rest}
+use Rattle.seating.specs.declared.Answered.{Answered}
 use Rattle.table.specs.Table.{played, playedTable, playedWords}
-use Rattle.table.specs.Core.{lineOf, answeredOf}
+use Rattle.seating.specs.Seating.{lineOf, answeredOf}
 use Rattle.table.specs.Same.{event-comes}
-use Rattle.table.proofs.Rest as N
-use Rattle.table.proofs.Rest.Laws as N′
-use Rattle.table.proofs.Answered as B
-use Rattle.table.proofs.Answered.Laws as B′
-use Rattle.table.proofs.Stations.{R}
-use Rattle.table.proofs.Calls.{both, gives, gives-lasts}
-use Rattle.table.proofs.Lending.{named-table, slice, shares-table, shared-home}
+use Rattle.seating.proofs.Rest as N
+use Rattle.seating.proofs.Rest.Laws as N′
+use Rattle.seating.proofs.Answered as B
+use Rattle.seating.proofs.Answered.Laws as B′
+use Rattle.seating.specs.Stations.{R}
+use Rattle.seating.specs.Calls.{both, gives, gives-lasts}
+use Rattle.seating.specs.Lending.{named-table, slice, shares-table, shared-home}
 use Rattle.table.proofs.Through.{Load, to-load, asks-load, Store, to-store, asks-store}
-use Rattle.table.proofs.load as load′
-use Rattle.table.proofs.load.Symbol as load-def
-use Rattle.table.proofs.load.Symbol.{name as #table·load}
-use Rattle.table.proofs.load.Met as load-thm
-use Rattle.table.proofs.store as store′
-use Rattle.table.proofs.store.Symbol as store-def
-use Rattle.table.proofs.store.Symbol.{name as #table·store}
-use Rattle.table.proofs.store.Met as store-thm
+use Rattle.seating.proofs.load as load′
+use Rattle.seating.proofs.load.Symbol as load-def
+use Rattle.seating.proofs.load.Symbol.{name as #seating·load}
+use Rattle.seating.proofs.load.Met as load-thm
+use Rattle.seating.proofs.store as store′
+use Rattle.seating.proofs.store.Symbol as store-def
+use Rattle.seating.proofs.store.Symbol.{name as #seating·store}
+use Rattle.seating.proofs.store.Met as store-thm
 use Rattle.table.proofs.play.Key.{name as #table·play}
 use Rattle.table.proofs.play as play
 use Rattle.table.proofs.play.Statement as stated
@@ -191,8 +191,8 @@ module _ {M : Type 1} (𝓤 : URA M) (H : Heap 𝓤) (A : Atoms 𝓤) (W : Given
       owned ! L.the-row (Is L.the-row) (LL.makes L.the-type L′.the-plain 𝓤 H A) l (w ∷ []) p $ fjoin ! $ nothing ! $ move ! (3 ∷ 0 ∷ []) $ join ! $
       move ! (2 ∷ 0 ∷ []) $ join ! $ join ! $ frame ! $ done !
 
-  module _ (C : Calls 𝓤 H) (Λ : Loops 𝓤 H) (fm : FmC 𝓤 H (W .laws) C) (load-met : Triple 𝓤 (C #table·load) (Load 𝓤 H A mem run))
-      (play-met : Triple 𝓤 (C #run·play) (Play 𝓤 H A mem run)) (store-met : Triple 𝓤 (C #table·store) (Store 𝓤 H A mem run)) where
+  module _ (C : Calls 𝓤 H) (Λ : Loops 𝓤 H) (fm : FmC 𝓤 H (W .laws) C) (load-met : Triple 𝓤 (C #seating·load) (Load 𝓤 H A mem run))
+      (play-met : Triple 𝓤 (C #run·play) (Play 𝓤 H A mem run)) (store-met : Triple 𝓤 (C #seating·store) (Store 𝓤 H A mem run)) where
     abbrev passed : List Val
     passed = rest-val rest ∷ sliceVal (b, o) (length ys) ∷ sliceVal (words .ptr) (length (words .now)) ∷ event-val event ∷ sliceVal (incs .ptr)
         (length (incs .now)) ∷ []
@@ -263,8 +263,8 @@ module _ {M : Type 1} (𝓤 : URA M) (H : Heap 𝓤) (A : Atoms 𝓤) (W : Given
         (stored .0) (stored .1)) r-is)))))))))))))))))))))))))
 
 module _ {M : Type 1} (𝓤 : URA M) (H : Heap 𝓤) (A : Atoms 𝓤) (W : Given 𝓤 H A) (mem : Memory → SProp 𝓤) (run : Routine → Fun 𝓤) (𝓣 : Tables 𝓤 H)
-    (load-met : Triple 𝓤 (𝓣 .C #table·load) (Load 𝓤 H A mem run)) (play-met : Triple 𝓤 (𝓣 .C #run·play) (Play 𝓤 H A mem run))
-    (store-met : Triple 𝓤 (𝓣 .C #table·store) (Store 𝓤 H A mem run)) where
+    (load-met : Triple 𝓤 (𝓣 .C #seating·load) (Load 𝓤 H A mem run)) (play-met : Triple 𝓤 (𝓣 .C #run·play) (Play 𝓤 H A mem run))
+    (store-met : Triple 𝓤 (𝓣 .C #seating·store) (Store 𝓤 H A mem run)) where
   play-walks : Walks 𝓤 H A play.ended stayed (WpFn 𝓤 H (𝓣 .C) (𝓣 .Λ) code.function) (play.clauses 𝓤 H A mem run)
   play-walks = walked 𝓤 H A play.ended stayed (play.clauses 𝓤 H A mem run) (WpFn 𝓤 H (𝓣 .C) (𝓣 .Λ) code.function)
       (λ κs. (LL.vals N.the-type N′.the-laws, (slice-vals, (slice-vals, (EL.vals E.the-type E′.the-laws, (slice-vals, tt))))))
@@ -308,6 +308,6 @@ play-spec 𝓤 H 𝓜 𝓖 𝓡 =
     entered 𝓤 H (tripleOf 𝓤 H (𝓖 .A) play.signature (play.spec 𝓤 H (𝓖 .A) (𝓜 .mem) (𝓡 .run)))
     (tables 𝓤 H 𝓜 𝓡 code.env .C) (tables 𝓤 H 𝓜 𝓡 code.env .Λ) #table·play code.function (code.unfolded 𝓤 H 𝓜 𝓡)
     (play-meets 𝓤 H (𝓖 .A) (givenOf 𝓤 H 𝓜 𝓖) (𝓜 .mem) (𝓡 .run) (tablesOf 𝓤 H 𝓜 (tables 𝓤 H 𝓜 𝓡 code.env))
-    (cited 𝓤 H (Load 𝓤 H (𝓖 .A) (𝓜 .mem) (𝓡 .run)) 𝓜 𝓡 code.env #table·load load-def.routine code.calls-table·load (load-thm.met 𝓤 H 𝓜 𝓖 𝓡))
+    (cited 𝓤 H (Load 𝓤 H (𝓖 .A) (𝓜 .mem) (𝓡 .run)) 𝓜 𝓡 code.env #seating·load load-def.routine code.calls-seating·load (load-thm.met 𝓤 H 𝓜 𝓖 𝓡))
     (cited 𝓤 H (Play 𝓤 H (𝓖 .A) (𝓜 .mem) (𝓡 .run)) 𝓜 𝓡 code.env #run·play core-play-def.routine code.calls-run·play (core-play-thm.met 𝓤 H 𝓜 𝓖 𝓡))
-    (cited 𝓤 H (Store 𝓤 H (𝓖 .A) (𝓜 .mem) (𝓡 .run)) 𝓜 𝓡 code.env #table·store store-def.routine code.calls-table·store (store-thm.met 𝓤 H 𝓜 𝓖 𝓡)))
+    (cited 𝓤 H (Store 𝓤 H (𝓖 .A) (𝓜 .mem) (𝓡 .run)) 𝓜 𝓡 code.env #seating·store store-def.routine code.calls-seating·store (store-thm.met 𝓤 H 𝓜 𝓖 𝓡)))

@@ -48,31 +48,31 @@ use Rattle.run.specs.Play.{placedTo}
 use Rattle.run.specs.Follows.{placed-length}
 use Rattle.run.proofs.Played as P
 use Rattle.run.proofs.Played.Laws as P′
-use Rattle.table.specs.declared.Answered.{Answered}
-use Rattle.table.specs.Core.{answeredOf, placed-none, placed-more}
-use Rattle.table.proofs.Answered as B
-use Rattle.table.proofs.Answered.Laws as B′
-use Rattle.table.proofs.Stations.{places, kind, bare, holds, Nearer, nearer-wf, R, makes, typed}
-use Rattle.table.proofs.Calls.{asks, gives, gives-lasts}
-use Rattle.table.proofs.Lending.{named-table, slice, lends-table, lent-home}
-use Rattle.table.proofs.Through.{Put, to-put, asks-put}
-use Rattle.table.proofs.put as put
-use Rattle.table.proofs.put.Symbol as put-def
-use Rattle.table.proofs.put.Symbol.{name as #table·put}
-use Rattle.table.proofs.put.Met as put-thm
-use Rattle.table.proofs.seat_of as seat-of
-use Rattle.table.proofs.seat_of.Symbol as seat-of-def
-use Rattle.table.proofs.seat_of.Symbol.{name as #table·seat-of}
-use Rattle.table.proofs.seat_of.Met as seat-of-thm
-use Rattle.table.proofs.answer_of as answer-of
-use Rattle.table.proofs.answer_of.Symbol as answer-of-def
-use Rattle.table.proofs.answer_of.Symbol.{name as #table·answer-of}
-use Rattle.table.proofs.answer_of.Met as answer-of-thm
-use Rattle.table.proofs.store.Key.{name as #table·store}
-use Rattle.table.proofs.store as store′
-use Rattle.table.proofs.store.Statement as stated
-use Rattle.table.proofs.store.Code as code
-use Rattle.table.proofs.store.Code.Mir as body
+use Rattle.seating.specs.declared.Answered.{Answered}
+use Rattle.seating.specs.Seating.{answeredOf, placed-none, placed-more}
+use Rattle.seating.proofs.Answered as B
+use Rattle.seating.proofs.Answered.Laws as B′
+use Rattle.seating.specs.Stations.{places, kind, bare, holds, Nearer, nearer-wf, R, makes, typed}
+use Rattle.seating.specs.Calls.{asks, gives, gives-lasts}
+use Rattle.seating.specs.Lending.{named-table, slice, lends-table, lent-home}
+use Rattle.seating.proofs.Through.{Put, to-put, asks-put}
+use Rattle.seating.proofs.put as put
+use Rattle.seating.proofs.put.Symbol as put-def
+use Rattle.seating.proofs.put.Symbol.{name as #seating·put}
+use Rattle.seating.proofs.put.Met as put-thm
+use Rattle.seating.proofs.seat_of as seat-of
+use Rattle.seating.proofs.seat_of.Symbol as seat-of-def
+use Rattle.seating.proofs.seat_of.Symbol.{name as #seating·seat-of}
+use Rattle.seating.proofs.seat_of.Met as seat-of-thm
+use Rattle.seating.proofs.answer_of as answer-of
+use Rattle.seating.proofs.answer_of.Symbol as answer-of-def
+use Rattle.seating.proofs.answer_of.Symbol.{name as #seating·answer-of}
+use Rattle.seating.proofs.answer_of.Met as answer-of-thm
+use Rattle.seating.proofs.store.Key.{name as #seating·store}
+use Rattle.seating.proofs.store as store′
+use Rattle.seating.proofs.store.Statement as stated
+use Rattle.seating.proofs.store.Code as code
+use Rattle.seating.proofs.store.Code.Mir as body
 
 abbrev stayed : Stays (store′.ended .signature .params) (store′.ended .kept)
 stayed = (stay-slice (0 ∷ []) tt (plain (λ _. R)), (stay-dropped (plain (λ _. P.the-row)) yes, tt))
@@ -89,8 +89,8 @@ module _ {M : Type 1} (𝓤 : URA M) (H : Heap 𝓤) (A : Atoms 𝓤) (mem : Mem
 abbrev more : Body
 more = seq (assign (place 6 []) (addrOf (place 1 (field 0 ∷ deref S′.mir ∷ []))))
     (seq (assign (place 7 []) (aggregate (copy (place 6 []) ∷ copy (place 1 (field 1 ∷ [])) ∷ [])))
-    (seq (call #table·seat-of (copy (place 2 []) ∷ copy (place 3 []) ∷ []) (place 8 []))
-    (seq (call #table·put (copy (place 7 []) ∷ copy (place 3 []) ∷ copy (place 8 []) ∷ []) (place 5 []))
+    (seq (call #seating·seat-of (copy (place 2 []) ∷ copy (place 3 []) ∷ []) (place 8 []))
+    (seq (call #seating·put (copy (place 7 []) ∷ copy (place 3 []) ∷ copy (place 8 []) ∷ []) (place 5 []))
     (assign (place 3 []) (op2 (add unsigned) (copy (place 3 [])) (int w64 1))))))
 
 -- what an event came to, as a value
@@ -166,8 +166,8 @@ module _ {M : Type 1} (𝓤 : URA M) (H : Heap 𝓤) (A : Atoms 𝓤) (W : Given
   abbrev so-far : Turn → ℕ
   so-far t = t .0
 
-  module _ (𝓣 : Tables 𝓤 H) (put-met : Triple 𝓤 (𝓣 .C #table·put) (Put 𝓤 H A mem run)) (seat-met : Triple 𝓤 (𝓣 .C #table·seat-of)
-      (SeatOf 𝓤 H A mem run)) (answer-met : Triple 𝓤 (𝓣 .C #table·answer-of) (AnswerOf 𝓤 H A mem run)) where
+  module _ (𝓣 : Tables 𝓤 H) (put-met : Triple 𝓤 (𝓣 .C #seating·put) (Put 𝓤 H A mem run)) (seat-met : Triple 𝓤 (𝓣 .C #seating·seat-of)
+      (SeatOf 𝓤 H A mem run)) (answer-met : Triple 𝓤 (𝓣 .C #seating·answer-of) (AnswerOf 𝓤 H A mem run)) where
     abbrev C : Calls 𝓤 H
     C = 𝓣 .C
 
@@ -255,8 +255,8 @@ module _ {M : Type 1} (𝓤 : URA M) (H : Heap 𝓤) (A : Atoms 𝓤) (W : Given
         (0, zero-le))))))))))
 
 module _ {M : Type 1} (𝓤 : URA M) (H : Heap 𝓤) (A : Atoms 𝓤) (W : Given 𝓤 H A) (mem : Memory → SProp 𝓤) (run : Routine → Fun 𝓤) (𝓣 : Tables 𝓤 H)
-    (put-met : Triple 𝓤 (𝓣 .C #table·put) (Put 𝓤 H A mem run)) (seat-met : Triple 𝓤 (𝓣 .C #table·seat-of) (SeatOf 𝓤 H A mem run))
-    (answer-met : Triple 𝓤 (𝓣 .C #table·answer-of) (AnswerOf 𝓤 H A mem run)) where
+    (put-met : Triple 𝓤 (𝓣 .C #seating·put) (Put 𝓤 H A mem run)) (seat-met : Triple 𝓤 (𝓣 .C #seating·seat-of) (SeatOf 𝓤 H A mem run))
+    (answer-met : Triple 𝓤 (𝓣 .C #seating·answer-of) (AnswerOf 𝓤 H A mem run)) where
   store-walks : Walks 𝓤 H A store′.ended stayed (WpFn 𝓤 H (𝓣 .C) (𝓣 .Λ) code.function) (store′.clauses 𝓤 H A mem run)
   store-walks = walked 𝓤 H A store′.ended stayed (store′.clauses 𝓤 H A mem run) (WpFn 𝓤 H (𝓣 .C) (𝓣 .Λ) code.function)
       (λ κs. (slice-vals, (LL.vals P.the-type P′.the-laws, tt))) (λ κs. (mut-slice-tells (named 0) (κs .0) R, (LL.tells P.the-type P′.the-laws, tt)))
@@ -276,10 +276,10 @@ pub store-spec : {M : Type 1} → stated.statement M
 unfolding code.routine tablesOf
 store-spec 𝓤 H 𝓜 𝓖 𝓡 =
     entered 𝓤 H (tripleOf 𝓤 H (𝓖 .A) store′.signature (store′.spec 𝓤 H (𝓖 .A) (𝓜 .mem) (𝓡 .run)))
-    (tables 𝓤 H 𝓜 𝓡 code.env .C) (tables 𝓤 H 𝓜 𝓡 code.env .Λ) #table·store code.function (code.unfolded 𝓤 H 𝓜 𝓡)
+    (tables 𝓤 H 𝓜 𝓡 code.env .C) (tables 𝓤 H 𝓜 𝓡 code.env .Λ) #seating·store code.function (code.unfolded 𝓤 H 𝓜 𝓡)
     (store-meets 𝓤 H (𝓖 .A) (givenOf 𝓤 H 𝓜 𝓖) (𝓜 .mem) (𝓡 .run) (tablesOf 𝓤 H 𝓜 (tables 𝓤 H 𝓜 𝓡 code.env))
-    (cited 𝓤 H (Put 𝓤 H (𝓖 .A) (𝓜 .mem) (𝓡 .run)) 𝓜 𝓡 code.env #table·put put-def.routine code.calls-table·put (put-thm.met 𝓤 H 𝓜 𝓖 𝓡))
-    (cited 𝓤 H (SeatOf 𝓤 H (𝓖 .A) (𝓜 .mem) (𝓡 .run)) 𝓜 𝓡 code.env #table·seat-of seat-of-def.routine code.calls-table·seat-of
+    (cited 𝓤 H (Put 𝓤 H (𝓖 .A) (𝓜 .mem) (𝓡 .run)) 𝓜 𝓡 code.env #seating·put put-def.routine code.calls-seating·put (put-thm.met 𝓤 H 𝓜 𝓖 𝓡))
+    (cited 𝓤 H (SeatOf 𝓤 H (𝓖 .A) (𝓜 .mem) (𝓡 .run)) 𝓜 𝓡 code.env #seating·seat-of seat-of-def.routine code.calls-seating·seat-of
     (seat-of-thm.met 𝓤 H 𝓜 𝓖 𝓡))
-    (cited 𝓤 H (AnswerOf 𝓤 H (𝓖 .A) (𝓜 .mem) (𝓡 .run)) 𝓜 𝓡 code.env #table·answer-of answer-of-def.routine code.calls-table·answer-of
+    (cited 𝓤 H (AnswerOf 𝓤 H (𝓖 .A) (𝓜 .mem) (𝓡 .run)) 𝓜 𝓡 code.env #seating·answer-of answer-of-def.routine code.calls-seating·answer-of
     (answer-of-thm.met 𝓤 H 𝓜 𝓖 𝓡)))

@@ -44,30 +44,30 @@ use Rattle.line.specs.declared.Line.{Line}
 use Rattle.line.specs.Fresh.{noStations}
 use Rattle.line.proofs.Line as L
 use Rattle.line.proofs.Line.Laws as L′
-use Rattle.table.specs.declared.Rest.{Rest}
-use Rattle.table.specs.Core.{seatedIn, withStation, lineTo, lineOf, line-none, line-more}
-use Rattle.table.proofs.Rest as N
-use Rattle.table.proofs.Rest.Laws as N′
-use Rattle.table.proofs.Stations.{places, kind, bare, holds, Nearer, nearer-wf, R, vals, val, tells, makes, typed}
-use Rattle.table.proofs.Calls.{same-value, asks, gives}
-use Rattle.table.proofs.Through.{Take, to-take, asks-take}
-use Rattle.table.proofs.take as take
-use Rattle.table.proofs.take.Symbol as take-def
-use Rattle.table.proofs.take.Symbol.{name as #table·take}
-use Rattle.table.proofs.take.Met as take-thm
-use Rattle.table.proofs.cleared as cleared
-use Rattle.table.proofs.cleared.Symbol as cleared-def
-use Rattle.table.proofs.cleared.Symbol.{name as #table·cleared}
-use Rattle.table.proofs.cleared.Met as cleared-thm
-use Rattle.table.proofs.seated as seated
-use Rattle.table.proofs.seated.Symbol as seated-def
-use Rattle.table.proofs.seated.Symbol.{name as #table·seated}
-use Rattle.table.proofs.seated.Met as seated-thm
-use Rattle.table.proofs.load.Key.{name as #table·load}
-use Rattle.table.proofs.load as load′
-use Rattle.table.proofs.load.Statement as stated
-use Rattle.table.proofs.load.Code as code
-use Rattle.table.proofs.load.Code.Mir as body
+use Rattle.seating.specs.declared.Rest.{Rest}
+use Rattle.seating.specs.Seating.{seatedIn, withStation, lineTo, lineOf, line-none, line-more}
+use Rattle.seating.proofs.Rest as N
+use Rattle.seating.proofs.Rest.Laws as N′
+use Rattle.seating.specs.Stations.{places, kind, bare, holds, Nearer, nearer-wf, R, vals, val, tells, makes, typed}
+use Rattle.seating.specs.Calls.{same-value, asks, gives}
+use Rattle.seating.proofs.Through.{Take, to-take, asks-take}
+use Rattle.seating.proofs.take as take
+use Rattle.seating.proofs.take.Symbol as take-def
+use Rattle.seating.proofs.take.Symbol.{name as #seating·take}
+use Rattle.seating.proofs.take.Met as take-thm
+use Rattle.seating.proofs.cleared as cleared
+use Rattle.seating.proofs.cleared.Symbol as cleared-def
+use Rattle.seating.proofs.cleared.Symbol.{name as #seating·cleared}
+use Rattle.seating.proofs.cleared.Met as cleared-thm
+use Rattle.seating.proofs.seated as seated
+use Rattle.seating.proofs.seated.Symbol as seated-def
+use Rattle.seating.proofs.seated.Symbol.{name as #seating·seated}
+use Rattle.seating.proofs.seated.Met as seated-thm
+use Rattle.seating.proofs.load.Key.{name as #seating·load}
+use Rattle.seating.proofs.load as load′
+use Rattle.seating.proofs.load.Statement as stated
+use Rattle.seating.proofs.load.Code as code
+use Rattle.seating.proofs.load.Code.Mir as body
 
 abbrev stayed : Stays (load′.ended .signature .params) (load′.ended .kept)
 stayed = (stay-dropped (plain (λ _. N.the-row)) yes, (stay-dropped (shrSliceOf (0 ∷ []) tt (plain (λ _. R))) yes, tt))
@@ -82,8 +82,8 @@ module _ {M : Type 1} (𝓤 : URA M) (H : Heap 𝓤) (A : Atoms 𝓤) (mem : Mem
 
 -- a turn behind its test
 abbrev more : Body
-more = seq (call #table·take (copy (place 2 []) ∷ copy (place 4 []) ∷ []) (place 7 []))
-    (seq (call #table·seated (copy (place 3 []) ∷ copy (place 4 []) ∷ copy (place 7 []) ∷ []) (place 3 []))
+more = seq (call #seating·take (copy (place 2 []) ∷ copy (place 4 []) ∷ []) (place 7 []))
+    (seq (call #seating·seated (copy (place 3 []) ∷ copy (place 4 []) ∷ copy (place 7 []) ∷ []) (place 3 []))
     (assign (place 4 []) (op2 (add unsigned) (copy (place 4 [])) (int w64 1))))
 
 -- a record as a value
@@ -153,8 +153,8 @@ module _ {M : Type 1} (𝓤 : URA M) (H : Heap 𝓤) (A : Atoms 𝓤) (W : Given
   abbrev so-far : Turn → ℕ
   so-far t = t .0
 
-  module _ (𝓣 : Tables 𝓤 H) (take-met : Triple 𝓤 (𝓣 .C #table·take) (Take 𝓤 H A mem run)) (cleared-met : Triple 𝓤 (𝓣 .C #table·cleared)
-      (Cleared 𝓤 H A mem run)) (seated-met : Triple 𝓤 (𝓣 .C #table·seated) (Seated 𝓤 H A mem run)) where
+  module _ (𝓣 : Tables 𝓤 H) (take-met : Triple 𝓤 (𝓣 .C #seating·take) (Take 𝓤 H A mem run)) (cleared-met : Triple 𝓤 (𝓣 .C #seating·cleared)
+      (Cleared 𝓤 H A mem run)) (seated-met : Triple 𝓤 (𝓣 .C #seating·seated) (Seated 𝓤 H A mem run)) where
     abbrev C : Calls 𝓤 H
     C = 𝓣 .C
 
@@ -245,8 +245,8 @@ module _ {M : Type 1} (𝓤 : URA M) (H : Heap 𝓤) (A : Atoms 𝓤) (W : Given
         (0, (zero-le, same .1))))))))))))
 
 module _ {M : Type 1} (𝓤 : URA M) (H : Heap 𝓤) (A : Atoms 𝓤) (W : Given 𝓤 H A) (mem : Memory → SProp 𝓤) (run : Routine → Fun 𝓤) (𝓣 : Tables 𝓤 H)
-    (take-met : Triple 𝓤 (𝓣 .C #table·take) (Take 𝓤 H A mem run)) (cleared-met : Triple 𝓤 (𝓣 .C #table·cleared) (Cleared 𝓤 H A mem run))
-    (seated-met : Triple 𝓤 (𝓣 .C #table·seated) (Seated 𝓤 H A mem run)) where
+    (take-met : Triple 𝓤 (𝓣 .C #seating·take) (Take 𝓤 H A mem run)) (cleared-met : Triple 𝓤 (𝓣 .C #seating·cleared) (Cleared 𝓤 H A mem run))
+    (seated-met : Triple 𝓤 (𝓣 .C #seating·seated) (Seated 𝓤 H A mem run)) where
   load-walks : Walks 𝓤 H A load′.ended stayed (WpFn 𝓤 H (𝓣 .C) (𝓣 .Λ) code.function) (load′.clauses 𝓤 H A mem run)
   load-walks = walked 𝓤 H A load′.ended stayed (load′.clauses 𝓤 H A mem run) (WpFn 𝓤 H (𝓣 .C) (𝓣 .Λ) code.function)
       (λ κs. (LL.vals N.the-type N′.the-laws, (slice-vals, tt))) (λ κs. (LL.tells N.the-type N′.the-laws, (shr-slice-tells (named 0) (κs .0) R, tt)))
@@ -266,10 +266,10 @@ pub load-spec : {M : Type 1} → stated.statement M
 unfolding code.routine tablesOf
 load-spec 𝓤 H 𝓜 𝓖 𝓡 =
     entered 𝓤 H (tripleOf 𝓤 H (𝓖 .A) load′.signature (load′.spec 𝓤 H (𝓖 .A) (𝓜 .mem) (𝓡 .run)))
-    (tables 𝓤 H 𝓜 𝓡 code.env .C) (tables 𝓤 H 𝓜 𝓡 code.env .Λ) #table·load code.function (code.unfolded 𝓤 H 𝓜 𝓡)
+    (tables 𝓤 H 𝓜 𝓡 code.env .C) (tables 𝓤 H 𝓜 𝓡 code.env .Λ) #seating·load code.function (code.unfolded 𝓤 H 𝓜 𝓡)
     (load-meets 𝓤 H (𝓖 .A) (givenOf 𝓤 H 𝓜 𝓖) (𝓜 .mem) (𝓡 .run) (tablesOf 𝓤 H 𝓜 (tables 𝓤 H 𝓜 𝓡 code.env))
-    (cited 𝓤 H (Take 𝓤 H (𝓖 .A) (𝓜 .mem) (𝓡 .run)) 𝓜 𝓡 code.env #table·take take-def.routine code.calls-table·take (take-thm.met 𝓤 H 𝓜 𝓖 𝓡))
-    (cited 𝓤 H (Cleared 𝓤 H (𝓖 .A) (𝓜 .mem) (𝓡 .run)) 𝓜 𝓡 code.env #table·cleared cleared-def.routine code.calls-table·cleared
+    (cited 𝓤 H (Take 𝓤 H (𝓖 .A) (𝓜 .mem) (𝓡 .run)) 𝓜 𝓡 code.env #seating·take take-def.routine code.calls-seating·take (take-thm.met 𝓤 H 𝓜 𝓖 𝓡))
+    (cited 𝓤 H (Cleared 𝓤 H (𝓖 .A) (𝓜 .mem) (𝓡 .run)) 𝓜 𝓡 code.env #seating·cleared cleared-def.routine code.calls-seating·cleared
     (cleared-thm.met 𝓤 H 𝓜 𝓖 𝓡))
-    (cited 𝓤 H (Seated 𝓤 H (𝓖 .A) (𝓜 .mem) (𝓡 .run)) 𝓜 𝓡 code.env #table·seated seated-def.routine code.calls-table·seated
+    (cited 𝓤 H (Seated 𝓤 H (𝓖 .A) (𝓜 .mem) (𝓡 .run)) 𝓜 𝓡 code.env #seating·seated seated-def.routine code.calls-seating·seated
     (seated-thm.met 𝓤 H 𝓜 𝓖 𝓡)))

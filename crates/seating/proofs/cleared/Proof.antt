@@ -2,10 +2,10 @@
 use mathlib.Core.Path.{ap}
 use lib.ListN.{replicate}
 use Rattle.station.specs.declared.Station.{Station}
-use Rattle.table.specs.Core.{seatedIn}
+use Rattle.seating.specs.Seating.{seatedIn}
 use borrow.Author.Needs.{needs}
-use Rattle.table.proofs.cleared.Statement.{statement}
-use Rattle.table.proofs.cleared.Tie as tie
+use Rattle.seating.proofs.cleared.Statement.{statement}
+use Rattle.seating.proofs.cleared.Tie as tie
 
 no-station-requires : tie.Need-no-station-requires
 no-station-requires c κs = search needs

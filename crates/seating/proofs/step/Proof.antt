@@ -47,35 +47,35 @@ use Rattle.setup.specs.declared.Plan.{Plan}
 use Rattle.setup.proofs.Plan as D
 use Rattle.setup.proofs.Plan.Laws as D′
 use Rattle.line.specs.Run.{noStation}
-use Rattle.table.specs.declared.Act.{Act}
-use Rattle.table.specs.Table as lent
-use Rattle.table.specs.Table.{step-comes}
-use Rattle.table.proofs.Act as C′
-use Rattle.table.proofs.Act.Laws as C″
-use Rattle.table.proofs.Stations.{R, makes, typed}
-use Rattle.table.proofs.Calls.{asks, gives, gives-lasts}
-use Rattle.table.proofs.Lending.{named-table, slice, shares-table, shared-home}
-use Rattle.table.proofs.Through.{Take, to-take, asks-take, Put, to-put, asks-put}
-use Rattle.table.proofs.take as take
-use Rattle.table.proofs.take.Symbol as take-def
-use Rattle.table.proofs.take.Symbol.{name as #table·take}
-use Rattle.table.proofs.take.Met as take-thm
-use Rattle.table.proofs.done as done′
-use Rattle.table.proofs.done.Symbol as done-def
-use Rattle.table.proofs.done.Symbol.{name as #table·done}
-use Rattle.table.proofs.done.Met as done-thm
-use Rattle.table.proofs.station_of as station-of
-use Rattle.table.proofs.station_of.Symbol as station-of-def
-use Rattle.table.proofs.station_of.Symbol.{name as #table·station-of}
-use Rattle.table.proofs.station_of.Met as station-of-thm
-use Rattle.table.proofs.put as put
-use Rattle.table.proofs.put.Symbol as put-def
-use Rattle.table.proofs.put.Symbol.{name as #table·put}
-use Rattle.table.proofs.put.Met as put-thm
-use Rattle.table.proofs.step.Key.{name as #table·step}
-use Rattle.table.proofs.step as step′
-use Rattle.table.proofs.step.Statement as stated
-use Rattle.table.proofs.step.Code as code
+use Rattle.seating.specs.declared.Act.{Act}
+use Rattle.seating.specs.Seating as lent
+use Rattle.seating.specs.Seating.{step-comes}
+use Rattle.seating.proofs.Act as C′
+use Rattle.seating.proofs.Act.Laws as C″
+use Rattle.seating.specs.Stations.{R, makes, typed}
+use Rattle.seating.specs.Calls.{asks, gives, gives-lasts}
+use Rattle.seating.specs.Lending.{named-table, slice, shares-table, shared-home}
+use Rattle.seating.proofs.Through.{Take, to-take, asks-take, Put, to-put, asks-put}
+use Rattle.seating.proofs.take as take
+use Rattle.seating.proofs.take.Symbol as take-def
+use Rattle.seating.proofs.take.Symbol.{name as #seating·take}
+use Rattle.seating.proofs.take.Met as take-thm
+use Rattle.seating.proofs.done as done′
+use Rattle.seating.proofs.done.Symbol as done-def
+use Rattle.seating.proofs.done.Symbol.{name as #seating·done}
+use Rattle.seating.proofs.done.Met as done-thm
+use Rattle.seating.proofs.station_of as station-of
+use Rattle.seating.proofs.station_of.Symbol as station-of-def
+use Rattle.seating.proofs.station_of.Symbol.{name as #seating·station-of}
+use Rattle.seating.proofs.station_of.Met as station-of-thm
+use Rattle.seating.proofs.put as put
+use Rattle.seating.proofs.put.Symbol as put-def
+use Rattle.seating.proofs.put.Symbol.{name as #seating·put}
+use Rattle.seating.proofs.put.Met as put-thm
+use Rattle.seating.proofs.step.Key.{name as #seating·step}
+use Rattle.seating.proofs.step as step′
+use Rattle.seating.proofs.step.Statement as stated
+use Rattle.seating.proofs.step.Code as code
 
 abbrev stayed : Stays (step′.ended .signature .params) (step′.ended .kept)
 stayed = (
@@ -196,9 +196,9 @@ module _ {M : Type 1} (𝓤 : URA M) (H : Heap 𝓤) (A : Atoms 𝓤) (W : Given
   asks-station r w p = asks 𝓤 H A W station-of.ended (station-of.clauses 𝓤 H A mem run)
       (to-station r w .0) tt (LL.makes B.the-type B′.the-plain 𝓤 H A, tt) (p, tt) (id⊢ 𝓤 _) (id⊢ 𝓤 _)
 
-  module _ (C : Calls 𝓤 H) (Λ : Loops 𝓤 H) (fm : FmC 𝓤 H (W .laws) C) (take-met : Triple 𝓤 (C #table·take) (Take 𝓤 H A mem run))
-      (done-met : Triple 𝓤 (C #table·done) (Done 𝓤 H A mem run))
-      (station-met : Triple 𝓤 (C #table·station-of) (StationOf 𝓤 H A mem run)) (put-met : Triple 𝓤 (C #table·put) (Put 𝓤 H A mem run)) where
+  module _ (C : Calls 𝓤 H) (Λ : Loops 𝓤 H) (fm : FmC 𝓤 H (W .laws) C) (take-met : Triple 𝓤 (C #seating·take) (Take 𝓤 H A mem run))
+      (done-met : Triple 𝓤 (C #seating·done) (Done 𝓤 H A mem run))
+      (station-met : Triple 𝓤 (C #seating·station-of) (StationOf 𝓤 H A mem run)) (put-met : Triple 𝓤 (C #seating·put) (Put 𝓤 H A mem run)) where
     abbrev passed : List Val
     passed = plan-val plan ∷ sliceVal (b, o) (length ys) ∷ vint w64 i ∷ act-val act ∷ []
 
@@ -262,8 +262,8 @@ module _ {M : Type 1} (𝓤 : URA M) (H : Heap 𝓤) (A : Atoms 𝓤) (W : Given
         by ! (exits r u (zs .0) long (step-comes plan ys i act s r p taken did left stored) r-is)))))))))))))))))))))))))
 
 module _ {M : Type 1} (𝓤 : URA M) (H : Heap 𝓤) (A : Atoms 𝓤) (W : Given 𝓤 H A) (mem : Memory → SProp 𝓤) (run : Routine → Fun 𝓤) (𝓣 : Tables 𝓤 H)
-    (take-met : Triple 𝓤 (𝓣 .C #table·take) (Take 𝓤 H A mem run)) (done-met : Triple 𝓤 (𝓣 .C #table·done) (Done 𝓤 H A mem run))
-    (station-met : Triple 𝓤 (𝓣 .C #table·station-of) (StationOf 𝓤 H A mem run)) (put-met : Triple 𝓤 (𝓣 .C #table·put) (Put 𝓤 H A mem run)) where
+    (take-met : Triple 𝓤 (𝓣 .C #seating·take) (Take 𝓤 H A mem run)) (done-met : Triple 𝓤 (𝓣 .C #seating·done) (Done 𝓤 H A mem run))
+    (station-met : Triple 𝓤 (𝓣 .C #seating·station-of) (StationOf 𝓤 H A mem run)) (put-met : Triple 𝓤 (𝓣 .C #seating·put) (Put 𝓤 H A mem run)) where
   step-walks : Walks 𝓤 H A step′.ended stayed (WpFn 𝓤 H (𝓣 .C) (𝓣 .Λ) code.function) (step′.clauses 𝓤 H A mem run)
   step-walks = walked 𝓤 H A step′.ended stayed (step′.clauses 𝓤 H A mem run) (WpFn 𝓤 H (𝓣 .C) (𝓣 .Λ) code.function)
       (λ κs. (LL.vals D.the-type D′.the-laws, (slice-vals, (uint-vals w64, (EL.vals C′.the-type C″.the-laws, tt)))))
@@ -291,10 +291,10 @@ pub step-spec : {M : Type 1} → stated.statement M
 unfolding code.routine tablesOf
 step-spec 𝓤 H 𝓜 𝓖 𝓡 =
     entered 𝓤 H (tripleOf 𝓤 H (𝓖 .A) step′.signature (step′.spec 𝓤 H (𝓖 .A) (𝓜 .mem) (𝓡 .run)))
-    (tables 𝓤 H 𝓜 𝓡 code.env .C) (tables 𝓤 H 𝓜 𝓡 code.env .Λ) #table·step code.function (code.unfolded 𝓤 H 𝓜 𝓡)
+    (tables 𝓤 H 𝓜 𝓡 code.env .C) (tables 𝓤 H 𝓜 𝓡 code.env .Λ) #seating·step code.function (code.unfolded 𝓤 H 𝓜 𝓡)
     (step-meets 𝓤 H (𝓖 .A) (givenOf 𝓤 H 𝓜 𝓖) (𝓜 .mem) (𝓡 .run) (tablesOf 𝓤 H 𝓜 (tables 𝓤 H 𝓜 𝓡 code.env))
-    (cited 𝓤 H (Take 𝓤 H (𝓖 .A) (𝓜 .mem) (𝓡 .run)) 𝓜 𝓡 code.env #table·take take-def.routine code.calls-table·take (take-thm.met 𝓤 H 𝓜 𝓖 𝓡))
-    (cited 𝓤 H (Done 𝓤 H (𝓖 .A) (𝓜 .mem) (𝓡 .run)) 𝓜 𝓡 code.env #table·done done-def.routine code.calls-table·done (done-thm.met 𝓤 H 𝓜 𝓖 𝓡))
-    (cited 𝓤 H (StationOf 𝓤 H (𝓖 .A) (𝓜 .mem) (𝓡 .run)) 𝓜 𝓡 code.env #table·station-of station-of-def.routine code.calls-table·station-of
+    (cited 𝓤 H (Take 𝓤 H (𝓖 .A) (𝓜 .mem) (𝓡 .run)) 𝓜 𝓡 code.env #seating·take take-def.routine code.calls-seating·take (take-thm.met 𝓤 H 𝓜 𝓖 𝓡))
+    (cited 𝓤 H (Done 𝓤 H (𝓖 .A) (𝓜 .mem) (𝓡 .run)) 𝓜 𝓡 code.env #seating·done done-def.routine code.calls-seating·done (done-thm.met 𝓤 H 𝓜 𝓖 𝓡))
+    (cited 𝓤 H (StationOf 𝓤 H (𝓖 .A) (𝓜 .mem) (𝓡 .run)) 𝓜 𝓡 code.env #seating·station-of station-of-def.routine code.calls-seating·station-of
     (station-of-thm.met 𝓤 H 𝓜 𝓖 𝓡))
-    (cited 𝓤 H (Put 𝓤 H (𝓖 .A) (𝓜 .mem) (𝓡 .run)) 𝓜 𝓡 code.env #table·put put-def.routine code.calls-table·put (put-thm.met 𝓤 H 𝓜 𝓖 𝓡)))
+    (cited 𝓤 H (Put 𝓤 H (𝓖 .A) (𝓜 .mem) (𝓡 .run)) 𝓜 𝓡 code.env #seating·put put-def.routine code.calls-seating·put (put-thm.met 𝓤 H 𝓜 𝓖 𝓡)))

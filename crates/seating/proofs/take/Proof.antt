@@ -43,13 +43,13 @@ use Rattle.line.proofs.no_station as none
 use Rattle.line.proofs.no_station.Symbol as none-def
 use Rattle.line.proofs.no_station.Symbol.{name as #line·no-station}
 use Rattle.line.proofs.no_station.Met as none-thm
-use Rattle.table.proofs.Stations.{places, R, vals, val, tells, makes, copy, typed, place-fits, place-at}
-use Rattle.table.proofs.Calls.{asks, gives}
-use Rattle.table.proofs.take.Key.{name as #table·take}
-use Rattle.table.proofs.take as take
-use Rattle.table.proofs.take.Statement as stated
-use Rattle.table.proofs.take.Code as code
-use Rattle.table.proofs.take.Code.Mir as body
+use Rattle.seating.specs.Stations.{places, R, vals, val, tells, makes, copy, typed, place-fits, place-at}
+use Rattle.seating.specs.Calls.{asks, gives}
+use Rattle.seating.proofs.take.Key.{name as #seating·take}
+use Rattle.seating.proofs.take as take
+use Rattle.seating.proofs.take.Statement as stated
+use Rattle.seating.proofs.take.Code as code
+use Rattle.seating.proofs.take.Code.Mir as body
 
 abbrev stayed : Stays (take.ended .signature .params) (take.ended .kept)
 stayed = (stay-dropped (shrSliceOf (0 ∷ []) tt (plain (λ _. R))) yes, (stay-dropped (plain (λ _. usize)) yes, tt))
@@ -167,7 +167,7 @@ pub take-spec : {M : Type 1} → stated.statement M
 unfolding code.routine tablesOf
 take-spec 𝓤 H 𝓜 𝓖 𝓡 =
     entered 𝓤 H (tripleOf 𝓤 H (𝓖 .A) take.signature (take.spec 𝓤 H (𝓖 .A) (𝓜 .mem) (𝓡 .run)))
-    (tables 𝓤 H 𝓜 𝓡 code.env .C) (tables 𝓤 H 𝓜 𝓡 code.env .Λ) #table·take code.function (code.unfolded 𝓤 H 𝓜 𝓡)
+    (tables 𝓤 H 𝓜 𝓡 code.env .C) (tables 𝓤 H 𝓜 𝓡 code.env .Λ) #seating·take code.function (code.unfolded 𝓤 H 𝓜 𝓡)
     (take-meets 𝓤 H (𝓖 .A) (givenOf 𝓤 H 𝓜 𝓖) (𝓜 .mem) (𝓡 .run) (tablesOf 𝓤 H 𝓜 (tables 𝓤 H 𝓜 𝓡 code.env))
     (cited 𝓤 H (None 𝓤 H (𝓖 .A) (𝓜 .mem) (𝓡 .run)) 𝓜 𝓡 code.env #line·no-station none-def.routine code.calls-line·no-station
     (none-thm.met 𝓤 H 𝓜 𝓖 𝓡)))

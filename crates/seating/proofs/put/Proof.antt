@@ -38,13 +38,13 @@ use denote.Triple.Walked.{says, Stays, stay-slice, stay-dropped, walkOf, goes-sl
 use denote.Exit.{yes}
 use Rattle.station.specs.declared.Station.{Station}
 use Rattle.line.specs.Run.{noStation}
-use Rattle.table.proofs.Stations.{places, R, vals, val, tells, makes, typed, place-fits, place-at}
-use Rattle.table.proofs.Lending.{named-table, slice, opened, closed}
-use Rattle.table.proofs.put.Key.{name as #table·put}
-use Rattle.table.proofs.put as put
-use Rattle.table.proofs.put.Statement as stated
-use Rattle.table.proofs.put.Code as code
-use Rattle.table.proofs.put.Code.Mir as body
+use Rattle.seating.specs.Stations.{places, R, vals, val, tells, makes, typed, place-fits, place-at}
+use Rattle.seating.specs.Lending.{named-table, slice, opened, closed}
+use Rattle.seating.proofs.put.Key.{name as #seating·put}
+use Rattle.seating.proofs.put as put
+use Rattle.seating.proofs.put.Statement as stated
+use Rattle.seating.proofs.put.Code as code
+use Rattle.seating.proofs.put.Code.Mir as body
 
 abbrev stayed : Stays (put.ended .signature .params) (put.ended .kept)
 stayed = (stay-slice (0 ∷ []) tt (plain (λ _. R)), (stay-dropped (plain (λ _. usize)) yes, (stay-dropped (plain (λ _. R)) yes, tt)))
@@ -144,5 +144,5 @@ pub put-spec : {M : Type 1} → stated.statement M
 unfolding code.routine tablesOf
 put-spec 𝓤 H 𝓜 𝓖 𝓡 =
     entered 𝓤 H (tripleOf 𝓤 H (𝓖 .A) put.signature (put.spec 𝓤 H (𝓖 .A) (𝓜 .mem) (𝓡 .run)))
-    (tables 𝓤 H 𝓜 𝓡 code.env .C) (tables 𝓤 H 𝓜 𝓡 code.env .Λ) #table·put code.function (code.unfolded 𝓤 H 𝓜 𝓡)
+    (tables 𝓤 H 𝓜 𝓡 code.env .C) (tables 𝓤 H 𝓜 𝓡 code.env .Λ) #seating·put code.function (code.unfolded 𝓤 H 𝓜 𝓡)
     (put-meets 𝓤 H (𝓖 .A) (givenOf 𝓤 H 𝓜 𝓖) (𝓜 .mem) (𝓡 .run) (tablesOf 𝓤 H 𝓜 (tables 𝓤 H 𝓜 𝓡 code.env)))

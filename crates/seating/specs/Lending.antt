@@ -22,7 +22,7 @@ use denote.Slice.{sliceVal, MutSlice, ShrSlice, heres, Room, finally, at-slice, 
 use denote.Lend.{Held, lends-slice, slice-back, lends-shr-slice}
 use denote.Index.{row, whole-out, whole-in, opens-slice, closes-slice}
 use Rattle.station.specs.declared.Station.{Station}
-use Rattle.table.proofs.Stations.{R}
+use Rattle.seating.specs.Stations.{R}
 
 module _ (κ : Lft) (q : Share) (γ : GName) (b o : ℕ) where
   -- the reference under a name, at a list of stations; and its value

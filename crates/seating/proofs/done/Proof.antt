@@ -1,8 +1,8 @@
 -- `done` answers 10, then 11, else what the board does. Assumes nothing.
-use Rattle.table.specs.Table.{does, done-ten, done-eleven, done-does}
+use Rattle.seating.specs.Seating.{does, done-ten, done-eleven, done-does}
 use borrow.Author.Needs.{needs}
-use Rattle.table.proofs.done.Statement.{statement}
-use Rattle.table.proofs.done.Tie as tie
+use Rattle.seating.proofs.done.Statement.{statement}
+use Rattle.seating.proofs.done.Tie as tie
 
 refused-requires : tie.Need-refused-requires
 refused-requires c κs = search needs
