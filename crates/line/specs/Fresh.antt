@@ -16,8 +16,8 @@ use Rattle.station.specs.declared.Station.{Station}
 use Rattle.flight.specs.Message.{decode}
 use Rattle.line.specs.declared.Line.{Line}
 use Rattle.line.specs.declared.Begun.{Begun}
-use Rattle.line.specs.Run.{noStation, freshStation, freshStations, fresh}
-use Rattle.line.specs.Valid.{fresh-at, fresh-length}
+use Rattle.model.specs.Run.{noStation, freshStation, freshStations, fresh}
+use Rattle.model.specs.Valid.{fresh-at, fresh-length}
 use Rattle.line.specs.Held.{firstOf, runOf}
 use Rattle.line.specs.HeldLaws.{first-length, place-some}
 

@@ -9,8 +9,8 @@ use Rattle.clock.specs.Pick.{pick}
 use Rattle.station.specs.declared.Station.{Station}
 use Rattle.flight.specs.Message.{decode}
 use Rattle.line.specs.declared.Line.{Line}
-use Rattle.line.specs.Run.{Run, noStation}
-use Rattle.line.specs.Record.{badRecord}
+use Rattle.model.specs.Run.{Run, noStation}
+use Rattle.model.specs.Record.{badRecord}
 
 -- the stations in the first n places of a table
 unfoldable pub firstOf : ℕ → List Station → List Station

@@ -20,9 +20,9 @@ use Rattle.flight.specs.Members.{some-append}
 use Rattle.flight.specs.Coding.{length-decode}
 use Rattle.station.specs.declared.Station.{Station}
 use Rattle.line.specs.declared.Line.{Line}
-use Rattle.line.specs.Run.{noStation}
-use Rattle.line.specs.Record.{badStationAt, someStation, badWay, badRound, badMessage, badRecord}
-use Rattle.line.specs.Valid.{valid-is}
+use Rattle.model.specs.Run.{noStation}
+use Rattle.model.specs.Record.{badStationAt, someStation, badWay, badRound, badMessage, badRecord}
+use Rattle.model.specs.Valid.{valid-is}
 use Rattle.line.specs.Held.{firstOf, placeOf, stationOf, runOf, badLine}
 
 -- there are n of them

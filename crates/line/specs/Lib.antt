@@ -1,16 +1,16 @@
--- The run of a whole line: its state, its record rules and its events; that every event keeps the record valid, what an
--- accepted event moves, and how many messages the history leaves in flight; and document 01's rehearsal computed on it.
-pub mod Run
-pub mod Record
-pub mod Event
-pub mod Order
-pub mod Valid
-pub mod Allowed
-pub mod Moves
-pub mod ValidSteps
-pub mod History
+-- The run of a whole line as the code holds it: which run of the model it is, its record rules, its questions and a fresh run. The
+-- model's own files are passed on under their names.
 pub mod Held
 pub mod HeldLaws
 pub mod Question
 pub mod Fresh
-pub mod Rehearsal
+pub use Rattle.model.specs.Run
+pub use Rattle.model.specs.Record
+pub use Rattle.model.specs.Event
+pub use Rattle.model.specs.Order
+pub use Rattle.model.specs.Valid
+pub use Rattle.model.specs.Allowed
+pub use Rattle.model.specs.Moves
+pub use Rattle.model.specs.ValidSteps
+pub use Rattle.model.specs.History
+pub use Rattle.model.specs.Rehearsal

@@ -14,7 +14,7 @@ use Rattle.line.specs.declared.Line.{Line}
 use Rattle.line.specs.declared.Shown.{Shown}
 use Rattle.line.specs.declared.Led.{Led}
 use Rattle.line.specs.declared.InFlight.{InFlight}
-use Rattle.line.specs.Run.{sound, stationAt}
+use Rattle.model.specs.Run.{sound, stationAt}
 use Rattle.line.specs.Held.{runOf, badLine}
 
 -- the reading and round of a station: 31 where it is faulty or at n or above

@@ -1,5 +1,5 @@
 -- `line::bad_content` answers `badContent`, from what `outside` and `below` answer. Assumes nothing.
-use Rattle.line.specs.Record.{badContent}
+use Rattle.model.specs.Record.{badContent}
 use borrow.Author.Needs.{needs}
 use Rattle.line.proofs.bad_content.Statement.{statement}
 use Rattle.line.proofs.bad_content.Tie as tie

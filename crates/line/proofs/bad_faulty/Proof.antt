@@ -1,6 +1,6 @@
 -- `line::bad_faulty` answers `badFaulty`. Assumes nothing.
 use mathlib.Core.Path.{refl}
-use Rattle.line.specs.Record.{badFaulty}
+use Rattle.model.specs.Record.{badFaulty}
 use Rattle.line.proofs.bad_faulty.Statement.{statement}
 use Rattle.line.proofs.bad_faulty.Tie as tie
 

@@ -1,5 +1,5 @@
 -- `line::bad_message` answers `badMessage`: three tests. Assumes nothing.
-use Rattle.line.specs.Record.{badMessage}
+use Rattle.model.specs.Record.{badMessage}
 use Rattle.line.specs.Held.{runOf}
 use borrow.Author.Needs.{needs}
 use Rattle.line.proofs.bad_message.Statement.{statement}

@@ -1,5 +1,5 @@
 -- `line::bad_round` answers `badRound`, by the kind. Assumes nothing.
-use Rattle.line.specs.Record.{badRound}
+use Rattle.model.specs.Record.{badRound}
 use Rattle.line.specs.Held.{runOf}
 use borrow.Author.Tests.{eq-eqb, ne-eqb}
 use borrow.Author.Needs.{needs}

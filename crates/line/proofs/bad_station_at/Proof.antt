@@ -1,6 +1,6 @@
 -- `line::bad_station_at` answers `badStationAt`, by whether the station is faulty. Assumes nothing.
 use mathlib.Core.Path.{ap, sym, _∙_}
-use Rattle.line.specs.Record.{badStationAt, badFaulty}
+use Rattle.model.specs.Record.{badStationAt, badFaulty}
 use Rattle.line.specs.Held.{runOf}
 use Rattle.station.specs.Record.{pastLimits}
 use borrow.Author.Tests.{le-ltb}

@@ -1,5 +1,5 @@
 -- `line::bad_way` answers `badWay`, from what `sound` answers of both ends. Assumes nothing.
-use Rattle.line.specs.Record.{badWay}
+use Rattle.model.specs.Record.{badWay}
 use Rattle.line.specs.Held.{runOf}
 use borrow.Author.Needs.{needs}
 use Rattle.line.proofs.bad_way.Statement.{statement}

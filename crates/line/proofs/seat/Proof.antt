@@ -6,7 +6,7 @@ use native.Mathlib.Numerals.{add-one}
 use denote.Ref.{now}
 use lib.ListN.{length, getD, set, replicate}
 use Rattle.station.specs.declared.Station.{Station}
-use Rattle.line.specs.Run.{freshStation}
+use Rattle.model.specs.Run.{freshStation}
 use Rattle.line.specs.Fresh.{seatedTo}
 use native.Mathlib.Omega.{arith}
 use Rattle.line.proofs.seat.Statement.{statement}

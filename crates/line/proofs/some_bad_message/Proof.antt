@@ -4,7 +4,7 @@ use mathlib.Core.Path.{_≡_, refl, ap, _∙_}
 use Prim.Native.Nat.{ℕ, _-_, _≤_}
 use denote.Ref.{now}
 use Rattle.flight.specs.Message.{decode, someOf}
-use Rattle.line.specs.Record.{badMessage}
+use Rattle.model.specs.Record.{badMessage}
 use Rattle.line.specs.Held.{runOf}
 use Rattle.line.specs.HeldLaws.{messages-more}
 use mathlib.Core.List.{[]}

@@ -2,7 +2,7 @@
 -- is how many are left. Assumes nothing.
 use mathlib.Core.Path.{_≡_, ap, sym, _∙_}
 use Prim.Native.Nat.{_-_, _≤_}
-use Rattle.line.specs.Record.{badStationAt, someStation}
+use Rattle.model.specs.Record.{badStationAt, someStation}
 use Rattle.line.specs.Held.{runOf}
 use Rattle.line.specs.HeldLaws.{some-none, some-more}
 use mathlib.Core.List.{[]}

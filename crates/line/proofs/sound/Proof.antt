@@ -1,5 +1,5 @@
 -- `line::sound` answers `sound`, from what `has` answers. Assumes nothing.
-use Rattle.line.specs.Run.{sound}
+use Rattle.model.specs.Run.{sound}
 use borrow.Author.Needs.{needs}
 use Rattle.line.proofs.sound.Statement.{statement}
 use Rattle.line.proofs.sound.Tie as tie

@@ -11,9 +11,9 @@ use Rattle.clock.specs.Pick.{refuse}
 use Rattle.mask.specs.Mask.{has}
 use Rattle.flight.specs.Message.{indexOf, overdue}
 use Rattle.event.specs.declared.Event.the-variants.{Advance, Deliver, Send}
-use Rattle.line.specs.Run.{Run}
-use Rattle.line.specs.Record.{someStation}
-use Rattle.line.specs.Event.{namesOf, effect, exceedsAt, driftsAt, passesAt, unsigned, full, eventRules}
+use Rattle.model.specs.Run.{Run}
+use Rattle.model.specs.Record.{someStation}
+use Rattle.model.specs.Event.{namesOf, effect, exceedsAt, driftsAt, passesAt, unsigned, full, eventRules}
 
 -- ---- advance: 12, 13, 14, 15, 19
 

@@ -24,14 +24,14 @@ use Rattle.flight.specs.Message.{sentTo, indexOf, without}
 use Rattle.flight.specs.Members.{length-without, length-sentTo}
 use Rattle.event.specs.declared.Event.{Event}
 use Rattle.event.specs.declared.Event.the-variants.{Advance, Deliver, Send}
-use Rattle.line.specs.Run.{Run, noStation, stationAt, fresh, others, readyOf, relayOf, sends, landsAt}
-use Rattle.line.specs.Record.{badRecord}
-use Rattle.line.specs.Event.{namesOf, eventAnswer, step}
-use Rattle.line.specs.Valid.{Ruled, Between, nobody, fresh-valid}
-use Rattle.line.specs.Allowed.{Advances, accepted, advances}
-use Rattle.line.specs.ValidSteps.{landed-sound, step-valid}
-use Rattle.line.specs.Moves.{settle-either, hear-either, advance-either, lands-is, step-refused, heard, heardSends, messageNamed, advanceAt, advanceSends}
-use Rattle.line.specs.Moves.{advance-station, advance-flight, delivered, deliver-is, deliver-station, deliver-other, faulty-sent, send-is, send-station, send-other}
+use Rattle.model.specs.Run.{Run, noStation, stationAt, fresh, others, readyOf, relayOf, sends, landsAt}
+use Rattle.model.specs.Record.{badRecord}
+use Rattle.model.specs.Event.{namesOf, eventAnswer, step}
+use Rattle.model.specs.Valid.{Ruled, Between, nobody, fresh-valid}
+use Rattle.model.specs.Allowed.{Advances, accepted, advances}
+use Rattle.model.specs.ValidSteps.{landed-sound, step-valid}
+use Rattle.model.specs.Moves.{settle-either, hear-either, advance-either, lands-is, step-refused, heard, heardSends, messageNamed, advanceAt, advanceSends}
+use Rattle.model.specs.Moves.{advance-station, advance-flight, delivered, deliver-is, deliver-station, deliver-other, faulty-sent, send-is, send-station, send-other}
 
 -- ---- histories
 

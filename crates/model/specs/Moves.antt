@@ -29,10 +29,10 @@ use Rattle.flight.specs.Members.{Agree, named-agree, agree-named, differs, inde
 use Rattle.flight.specs.Apart.{Apart, other-turn, twins-apart}
 use Rattle.event.specs.declared.Event.{Event}
 use Rattle.event.specs.declared.Event.the-variants.{Advance, Deliver, Send}
-use Rattle.line.specs.Run.{Run, sound, noStation, stationAt, others, readyOf, relayOf, sends, become, signAt, hearAt, movedAll, moves, landsAt, signTo}
-use Rattle.line.specs.Event.{namesOf, takeOut, effect, eventAnswer, step}
-use Rattle.line.specs.Valid.{Valid}
-use Rattle.line.specs.Allowed.{Delivers, FaultySends, accepted, advances, delivers, faulty-sends}
+use Rattle.model.specs.Run.{Run, sound, noStation, stationAt, others, readyOf, relayOf, sends, become, signAt, hearAt, movedAll, moves, landsAt, signTo}
+use Rattle.model.specs.Event.{namesOf, takeOut, effect, eventAnswer, step}
+use Rattle.model.specs.Valid.{Valid}
+use Rattle.model.specs.Allowed.{Delivers, FaultySends, accepted, advances, delivers, faulty-sends}
 
 -- ---- accepted and refused
 

@@ -16,8 +16,8 @@ use Rattle.flight.specs.Message.{noMessage, indexOf, without, overdue}
 use Rattle.event.specs.declared.Event.{Event}
 use Rattle.event.specs.declared.Event.the-variants.{Advance, Deliver, Send}
 use Rattle.event.specs.Event.{barred}
-use Rattle.line.specs.Run.{Run, sound, stationAt, moves, signTo, hearAt}
-use Rattle.line.specs.Record.{someStation, badRecord}
+use Rattle.model.specs.Run.{Run, sound, stationAt, moves, signTo, hearAt}
+use Rattle.model.specs.Record.{someStation, badRecord}
 
 -- ---- what an event does
 

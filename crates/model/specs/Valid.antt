@@ -25,8 +25,8 @@ use Rattle.station.specs.Record.{badNumbers, badSigned, badGathered, badStation
 use Rattle.flight.specs.declared.Message.{Message}
 use Rattle.flight.specs.Message.{twins}
 use Rattle.flight.specs.Members.{All, noMember, all-map, some-none, none-some}
-use Rattle.line.specs.Run.{Run, sound, noStation, stationAt, freshStation, freshStations, fresh}
-use Rattle.line.specs.Record.{badFaulty, badStationAt, someStation, badContent, badWay, badRound, badMessage, badRecord}
+use Rattle.model.specs.Run.{Run, sound, noStation, stationAt, freshStation, freshStations, fresh}
+use Rattle.model.specs.Record.{badFaulty, badStationAt, someStation, badContent, badWay, badRound, badMessage, badRecord}
 
 -- ---- the rules
 

@@ -14,10 +14,10 @@ use Rattle.flight.specs.Message.{named, messageOf, indexOf, without, sentTo, so
 use Rattle.event.specs.declared.Event.{Event}
 use Rattle.event.specs.declared.Event.the-variants.{Advance, Deliver, Send}
 use Rattle.event.specs.Event.{badIncrement, badAdvance, badEnds, barred}
-use Rattle.line.specs.Run.{Run, sound, freshStations, fresh, others, sends, become, signAt, hearAt, movedAll, moves, landsAt, signTo}
-use Rattle.line.specs.Record.{badFaulty, badStationAt, someStation, badContent, badWay, badRound, badMessage, badRecord}
-use Rattle.line.specs.Event.{takeOut, effect, exceedsAt, driftsAt, passesAt, unsignedAt, unsigned, full, eventRules, stepAnswer, eventAnswer, step}
-use Rattle.line.specs.History.{Entry, told, sumTo, sentBetween, taken, sentIn, deliveredIn, seen}
+use Rattle.model.specs.Run.{Run, sound, freshStations, fresh, others, sends, become, signAt, hearAt, movedAll, moves, landsAt, signTo}
+use Rattle.model.specs.Record.{badFaulty, badStationAt, someStation, badContent, badWay, badRound, badMessage, badRecord}
+use Rattle.model.specs.Event.{takeOut, effect, exceedsAt, driftsAt, passesAt, unsignedAt, unsigned, full, eventRules, stepAnswer, eventAnswer, step}
+use Rattle.model.specs.History.{Entry, told, sumTo, sentBetween, taken, sentIn, deliveredIn, seen}
 
 -- n 3, f 1, r 0, T 2, D 2, A 4, P 7, station 2 faulty
 abbrev plan : Plan

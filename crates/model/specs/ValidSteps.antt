@@ -29,12 +29,12 @@ use Rattle.flight.specs.Members.{All, noMember, all-append, all-map, all-at, al
 use Rattle.flight.specs.Apart.{twins-append, twins-sentTo, twins-without}
 use Rattle.event.specs.declared.Event.{Event}
 use Rattle.event.specs.declared.Event.the-variants.{Advance, Deliver, Send}
-use Rattle.line.specs.Run.{Run, sound, noStation, stationAt, others, readyOf, relayOf, sends, become, signAt, hearAt, movedAll, moves, landsAt, signTo}
-use Rattle.line.specs.Record.{badRecord}
-use Rattle.line.specs.Event.{takeOut, deliverAt, effect, stepAnswer, eventAnswer, step}
-use Rattle.line.specs.Valid.{Sound, Ruled, Due, OnItsWay, Between, nobody, Valid, sound-is, is-valid}
-use Rattle.line.specs.Allowed.{Advances, second-fails, accepted, advances, delivers, faulty-sends}
-use Rattle.line.specs.Moves.{settle-either, hear-either, lands-is, others-are, all-sends, moved-at, moved-length, signed-to}
+use Rattle.model.specs.Run.{Run, sound, noStation, stationAt, others, readyOf, relayOf, sends, become, signAt, hearAt, movedAll, moves, landsAt, signTo}
+use Rattle.model.specs.Record.{badRecord}
+use Rattle.model.specs.Event.{takeOut, deliverAt, effect, stepAnswer, eventAnswer, step}
+use Rattle.model.specs.Valid.{Sound, Ruled, Due, OnItsWay, Between, nobody, Valid, sound-is, is-valid}
+use Rattle.model.specs.Allowed.{Advances, second-fails, accepted, advances, delivers, faulty-sends}
+use Rattle.model.specs.Moves.{settle-either, hear-either, lands-is, others-are, all-sends, moved-at, moved-length, signed-to}
 
 -- ---- a station's step
 

@@ -13,7 +13,7 @@ use Rattle.station.specs.declared.Station.{Station}
 use Rattle.station.specs.Record.{badStation}
 use Rattle.flight.specs.declared.Message.{Message}
 use Rattle.flight.specs.Message.{someOf, twins}
-use Rattle.line.specs.Run.{Run, sound, stationAt}
+use Rattle.model.specs.Run.{Run, sound, stationAt}
 
 -- one of a faulty station's fields is not zero
 unfoldable pub badFaulty : Station → Bool

@@ -23,11 +23,11 @@ use Rattle.flight.specs.Members.{All, none-overdue, indexOf-most}
 use Rattle.event.specs.declared.Event.{Event}
 use Rattle.event.specs.declared.Event.the-variants.{Advance, Deliver, Send}
 use Rattle.event.specs.Event.{badIncrement, badAdvance, badEnds, barred}
-use Rattle.line.specs.Run.{Run, sound, stationAt}
-use Rattle.line.specs.Record.{someStation, badRecord}
-use Rattle.line.specs.Event.{namesOf, effect, exceedsAt, driftsAt, passesAt, unsignedAt, unsigned, full, stepAnswer, eventAnswer}
-use Rattle.line.specs.Order.{twelve, thirteen, fourteen, fifteen, advance-last, sixteen, deliver-last, seventeen, eighteen, send-last}
-use Rattle.line.specs.Valid.{Sound, Valid, valid-is, none-station, is-sound}
+use Rattle.model.specs.Run.{Run, sound, stationAt}
+use Rattle.model.specs.Record.{someStation, badRecord}
+use Rattle.model.specs.Event.{namesOf, effect, exceedsAt, driftsAt, passesAt, unsignedAt, unsigned, full, stepAnswer, eventAnswer}
+use Rattle.model.specs.Order.{twelve, thirteen, fourteen, fifteen, advance-last, sixteen, deliver-last, seventeen, eighteen, send-last}
+use Rattle.model.specs.Valid.{Sound, Valid, valid-is, none-station, is-sound}
 
 -- an advance by d that is accepted
 pub record Advances (r : Run) (d : ℕ) (increments : List ℕ) : Type 0 where
