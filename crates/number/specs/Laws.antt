@@ -1,7 +1,7 @@
 -- Laws of numbers as bytes: how far the weights go, so that no sum wraps; how long the bytes of a number are; and how
 -- what is laid down in several goes is laid down at once.
 use Prim.Native.Nat.{ℕ, zero, suc, _+_, _*_, _-_, _/_, _%_, _^_, _<_, _≤_}
-use mathlib.Core.Bool.{Bool, true, false}
+use mathlib.Core.Bool.{Bool, true, false, _&&_, not}
 use mathlib.Core.List.{List, [], _∷_, _++_, append-assoc, append-nil}
 use mathlib.Core.Path.{_≡_, refl, ap, ap₂, sym, _∙_}
 use native.Mathlib.Nat.{mul-le-mul-left, mul-le-mul-right, pow-suc, one-le-pow, mul-assoc, mul-comm, add-zero, div-lt-iff-lt-mul}
@@ -9,12 +9,12 @@ use native.Mathlib.Numerals.{add-one}
 use native.Mathlib.Decide.{decLt}
 use native.Mathlib.Omega.{arith}
 use borrow.Author.Tests.{lt-ltb, le-ltb, lt-leb, le-leb}
-use lib.Dec.{ltb, leb}
+use lib.Dec.{ltb, leb, eqb}
 use lib.ListN.{length, getD, take, drop, set, replicate, length-set, length-append, length-take, length-drop, take-append-drop}
 use lib.Seq.{paste-suc, take-suc-set, take-at, drop-at, take-suc, drop-drop, length-take-le}
 use Rattle.clock.specs.Pick.{pick}
-use Rattle.number.specs.declared.Number.the-variants.{Refused}
-use Rattle.number.specs.Number.{ends, numberFrom, groups, numberBytes, bytesOf, laid, room, wrote, buffer}
+use Rattle.number.specs.declared.Number.the-variants.{Value, Refused}
+use Rattle.number.specs.Number.{ends, numberFrom, readNumber, groups, numberBytes, bytesOf, laid, room, wrote, buffer}
 use Rattle.number.specs.declared.Written.the-variants as written
 
 -- reading goes on by one byte
@@ -26,6 +26,16 @@ pub number-step : (left : ℕ) (s : List ℕ) (at weight sum : ℕ) → 0 < left
 unfolding numberFrom
 number-step zero s at weight sum h = absurd (omega arith)
 number-step (suc left) s at weight sum h = let e : suc left - 1 ≡ left = omega arith in rw e refl
+
+-- a first byte below 128 is the whole number
+pub number-short : (s : List ℕ) (at : ℕ) → at < length s → getD s at 0 < 128 → readNumber s at ≡ Value (getD s at 0) (at + 1)
+unfolding readNumber ends
+number-short s at h b = number-step 9 s at 1 0 (omega arith) ∙ simp (lt-leb _ _ h, lt-ltb _ _ b) (go (eqb (getD s at 0) 0))
+  where
+    go : (zero : Bool)
+        → pick (zero && not (eqb 1 1)) (Refused 22) (Value (0 + getD s at 0 * 1) (at + 1)) ≡ Value (getD s at 0) (at + 1)
+    go true = ap (λ (k : ℕ). Value k (at + 1)) (omega arith)
+    go false = ap (λ (k : ℕ). Value k (at + 1)) (omega arith)
 
 -- with so many bytes left before the tenth, the next group weighs this much, and the sum so far is less
 pub record Weight (left weight sum : ℕ) : Type 0 where

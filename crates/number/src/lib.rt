@@ -45,8 +45,8 @@ fn tenth(bytes: &[u8], at: usize, weight: u64, sum: u64) -> Number
     ends(byte, weight, sum, at)
 }
 
-// The number at a place of the bytes: read whole, or the reading stops.
-pub fn read_number(bytes: &[u8], at: usize) -> Number
+// The number at a place of the bytes, byte by byte.
+fn read_long(bytes: &[u8], at: usize) -> Number
     ensures { λ r. ⌜ r ≡ form.readNumber (now (bytes .entry)) at ⌝ }
 {
     let mut place = at;
@@ -67,6 +67,20 @@ pub fn read_number(bytes: &[u8], at: usize) -> Number
         left -= 1;
     }
     tenth(bytes, place, weight, sum)
+}
+
+// The number at a place of the bytes: read whole, or the reading stops. Most numbers of a script are one byte.
+pub fn read_number(bytes: &[u8], at: usize) -> Number
+    ensures { λ r. ⌜ r ≡ form.readNumber (now (bytes .entry)) at ⌝ }
+{
+    if bytes.len() <= at {
+        return read_long(bytes, at);
+    }
+    let byte = bytes[at] as u64;
+    if byte < 128 {
+        return Number::Value(byte, at + 1);
+    }
+    read_long(bytes, at)
 }
 
 // The bytes of a number, in a scratch array: the first `count` of them.
