@@ -4,6 +4,7 @@ pub mod Members
 pub mod Coding
 pub mod Apart
 pub mod Keys
+pub mod Places
 pub mod Sending
 pub mod Notes
 pub mod Marks

@@ -98,6 +98,16 @@ unfoldable pub indexOf : Names → List Message → ℕ
 indexOf x [] = 0
 indexOf x (m ∷ ms) = pick (named x m) 0 (suc (indexOf x ms))
 
+-- the place `near` where the message there has these names, else the first message with them
+unfoldable pub nearOr : ℕ → Names → List Message → ℕ
+nearOr near x ms = pick (ltb near (length ms) && named x (getD ms near noMessage)) near (indexOf x ms)
+
+-- the notes t, with k messages of the words from place `from` on noted: at the last nine bits of its first word, which are
+-- sender, recipient and kind, stands where a message lies
+unfoldable pub placesTo : List ℕ → ℕ → ℕ → List ℕ → List ℕ
+placesTo l from zero t = t
+placesTo l from (suc k) t = set (placesTo l from k t) (getD l (3 * (from + k)) 0 % 512) (from + k)
+
 -- the i-th message taken out, and the last one put in its place
 unfoldable pub without : ℕ → List Message → List Message
 without i ms = take (length ms - 1) (set ms i (getD ms (length ms - 1) noMessage))

@@ -16,7 +16,7 @@ use Rattle.line.specs.Run.{sound, freshStations, fresh, others, sends, become, 
 use Rattle.line.specs.Record.{badFaulty, badStationAt, someStation, badContent, badWay, badRound, badMessage, badRecord}
 use Rattle.line.specs.Event.{takeOut, effect, exceedsAt, driftsAt, passesAt, unsignedAt, unsigned, full, eventRules, stepAnswer, eventAnswer, step}
 use Rattle.line.specs.Fresh.{begun}
-use Rattle.text.specs.Text.{placesFrom, places, lastDigits, decimal, spaced, roundOf, roundsTo, eventLine, told, setupLine, scriptLine}
+use Rattle.text.specs.Text.{placesFrom, places, lastDigits, decimal, spaced, roundOf, roundsTo, eventEnd, lineWith, eventLine, told, setupLine, scriptLine}
 use Rattle.run.specs.Part.{opened, opening}
 use Rattle.rehearsal.specs.Rehearsed.{linesFrom, rehearsal}
 
@@ -63,5 +63,5 @@ eightLine = 56 ∷ 32 ∷ 48 ∷ 32 ∷ 51 ∷ 32 ∷ 49 ∷ 32 ∷ 49 ∷ 32 �
 -- what is printed of it
 pub printed : rehearsal script
     ≡ firstLine ++ oneLine ++ twoLine ++ threeLine ++ fourLine ++ fiveLine ++ sixLine ++ sevenLine ++ eightLine
-unfolding keeps someTo has countTo count below join only all minus badStations badFaults badLimits badMarks gap steps spreads planAnswer badFirst firstAnswer setupAnswer still complete start settle gather hear sign move lands passes advance badNumbers badSigned badGathered badStation exceeds named messageOf indexOf without sentTo someOf late twins badIncrement badAdvance badEnds barred sound freshStations fresh others sends become signAt hearAt movedAll moves landsAt signTo badFaulty badStationAt badContent badWay badRound badMessage badRecord takeOut effect someStation exceedsAt driftsAt passesAt unsignedAt unsigned full eventRules stepAnswer eventAnswer step ends numberFrom readNumber readMany padded planOf setupFrom readSetup unread asSetup advanceFrom eventFrom readEvent noneRead asEvent placesFrom places lastDigits decimal spaced roundOf roundsTo eventLine told setupLine scriptLine begun opened opening linesFrom rehearsal
+unfolding keeps someTo has countTo count below join only all minus badStations badFaults badLimits badMarks gap steps spreads planAnswer badFirst firstAnswer setupAnswer still complete start settle gather hear sign move lands passes advance badNumbers badSigned badGathered badStation exceeds named messageOf indexOf without sentTo someOf late twins badIncrement badAdvance badEnds barred sound freshStations fresh others sends become signAt hearAt movedAll moves landsAt signTo badFaulty badStationAt badContent badWay badRound badMessage badRecord takeOut effect someStation exceedsAt driftsAt passesAt unsignedAt unsigned full eventRules stepAnswer eventAnswer step ends numberFrom readNumber readMany padded planOf setupFrom readSetup unread asSetup advanceFrom eventFrom readEvent noneRead asEvent placesFrom places lastDigits decimal spaced roundOf roundsTo eventEnd lineWith eventLine told setupLine scriptLine begun opened opening linesFrom rehearsal
 printed = refl

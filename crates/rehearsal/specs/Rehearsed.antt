@@ -23,7 +23,8 @@ use Rattle.line.specs.Event.{eventAnswer, step}
 use Rattle.line.specs.Held.{runOf, badLine}
 use Rattle.line.specs.declared.Begun.{Begun}
 use Rattle.line.specs.Fresh.{noStations, noPlan, lineFor, seatedTo, begun, fresh-run}
-use Rattle.text.specs.Text.{roundsTo, roundOf, eventLine, setupLine, scriptLine}
+use Rattle.text.specs.Text.{lineWith, eventLine, setupLine, scriptLine}
+use Rattle.text.specs.Laws.{end-same}
 use Rattle.run.specs.Play.{comes, playAnswer}
 use Rattle.run.specs.Play.{played as eventPlayed, playedWords}
 use Rattle.run.specs.Limits.{held-is, held-settled}
@@ -55,14 +56,9 @@ restOf bytes s = pick (eqb (s .answer) 0) (linesFrom (maxScript - s .number) byt
 
 -- ---- a line shows the time and the rounds, and not the flight
 
-rounds-same : (l : Line) (words : List ℕ) (k : ℕ) → roundsTo (runOf l []) k ≡ roundsTo (runOf l words) k
-unfolding roundsTo roundOf runOf
-rounds-same l words zero = refl
-rounds-same l words (suc k) = ap (λ (x : List ℕ). x ++ roundOf (runOf l words) k) (rounds-same l words k)
-
 line-same : (number answer : ℕ) (l : Line) (words : List ℕ) → eventLine number answer (runOf l []) ≡ eventLine number answer (runOf l words)
 unfolding eventLine runOf
-line-same number answer l words = rw (rounds-same l words (l .plan .stations)) refl
+line-same number answer l words = ap (lineWith number answer) (end-same (runOf l []) (runOf l words) refl refl (λ i m. refl))
 
 -- ---- one part
 

@@ -1,38 +1,45 @@
 -- Laws of a part of a script: seating a run keeps it, each event of a valid record goes by the private step, and the record
 -- stays valid, so one check is enough for all.
 use Prim.Native.Nat.{ℕ, zero, suc, _+_, _*_, _-_, _<_, _≤_}
-use mathlib.Core.Bool.{true, false, _&&_, _||_, not}
+use mathlib.Core.Bool.{Bool, true, false, _&&_, _||_, not}
 use mathlib.Core.List.{List, []}
 use mathlib.Core.Path.{_≡_, refl, ap, sym, subst, _∙_}
 use native.Mathlib.Numerals.{add-one}
 use native.Mathlib.Omega.{arith}
 use lib.Dec.{ltb, eqb}
-use lib.ListN.{length, set, take}
-use borrow.Author.Tests.{ltb-true, lt-ltb, le-ltb, eq-eqb, ne-eqb}
+use lib.ListN.{length, getD, set, take, drop, length-set}
+use lib.Seq.{getD-set-same, getD-set-other, take-append-seam}
+use borrow.Author.Tests.{ltb-true, lt-ltb, le-ltb, eq-eqb, ne-eqb, eqb-true, eqb-false}
 use Rattle.clock.specs.Limits.{maxScript, maxFlight}
+use Rattle.clock.specs.Pick.{pick}
 use Rattle.clock.specs.Tests.{both}
 use Rattle.event.specs.declared.Event.{Event}
+use Rattle.event.specs.Event.{barred}
+use Rattle.setup.specs.declared.Plan.{Plan}
 use Rattle.number.specs.Number.{laid}
 use Rattle.number.specs.Laws.{length-laid}
 use Rattle.script.specs.declared.read.SetupRead.{SetupRead}
 use Rattle.script.specs.declared.read.EventRead.{EventRead}
-use Rattle.script.specs.Read.{readSetup, asSetup}
+use Rattle.script.specs.Read.{readSetup, asSetup, readEvent, asEvent}
 use Rattle.station.specs.declared.Station.{Station}
 use Rattle.line.specs.declared.Line.{Line}
-use Rattle.line.specs.Run.{Run}
+use Rattle.line.specs.Run.{Run, noStation, stationAt}
+use Rattle.line.specs.Event.{effect, stepAnswer}
 use Rattle.line.specs.Record.{badRecord}
 use Rattle.line.specs.Held.{firstOf, stationOf, runOf, badLine}
 use Rattle.line.specs.HeldLaws.{first-length, station-of}
 use Rattle.line.specs.declared.Begun.{Begun}
 use Rattle.line.specs.Fresh.{noStations, begun}
-use Rattle.text.specs.Text.{eventLine, setupLine, scriptLine, roomy, fits, printed, behind}
-use Rattle.text.specs.Laws.{fits-well}
-use Rattle.text.specs.Room.{roomy-has, line-most}
+use Rattle.text.specs.Text.{eventEnd, lineWith, eventLine, setupLine, scriptLine, roomy, fits, fitsEnd, printed, behind}
+use Rattle.text.specs.Laws.{fits-well, fits-end, end-same}
+use Rattle.text.specs.Room.{roomy-has, line-most, end-most}
 use Rattle.run.specs.declared.Played.{Played}
 use Rattle.run.specs.declared.parts.Part.{Part}
-use Rattle.run.specs.Play.{placedTo, comes, playAnswer, stepped, steppedWords}
+use Rattle.run.specs.declared.Heard.{Heard}
+use Rattle.run.specs.Play.{placedTo, holding, comes, playAnswer, stepped, steppedWords}
 use Rattle.run.specs.Play.{played as eventPlayed, playedWords}
-use Rattle.run.specs.Limits.{held-is}
+use Rattle.run.specs.Limits.{Held, held-is, held-settled, table-station}
+use Rattle.run.specs.Hearing.{seats, Noted, DoesBy, signedTo, signed-length, noted-all, hearer, line-heard}
 use Rattle.run.specs.Follows.{placed-length, first-placed, play-keeps, play-words}
 use Rattle.run.specs.Part.{Opening, closed, begins, opened, opening, openPart, openOut, Standing, goesOn, lineOf, after, stops, readAt, playedFrom, seated, standing, played, partOf}
 
@@ -189,46 +196,52 @@ step-played l words e increments ok = rw ok (refl, refl)
 module _ (bytes : List ℕ) (start here : Standing) (o : Onward bytes start here)
     (g : goesOn bytes (here .next) (here .number) (here .out) (here .place) ≡ true) where
   -- the event's line has room
-  line-fits : (e : Event) (increments : List ℕ) → fits (eventPlayed (here .line) (here .words) e increments .line) (here .out) (here .place) ≡ true
+  end-fits : (e : Event) (increments : List ℕ)
+      → fitsEnd (eventEnd (runOf (eventPlayed (here .line) (here .words) e increments .line) [])) (here .out) (here .place) ≡ true
   unfolding runOf
-  line-fits e increments =
+  end-fits e increments =
       let keeps = play-keeps (here .line) (here .words) e increments (o .good) (o .twelve) in
-      let room = goes-number bytes (here .next) (here .number) (here .out) (here .place) g .1 in
-      fits-well (eventPlayed (here .line) (here .words) e increments .line) (here .out) (here .place)
-      (held-is _ _ (keeps .0) .valid .rules .plan .stations .1) room
+      let few = held-is _ _ (keeps .0) .valid .rules .plan .stations .1 in
+      let most = end-most (runOf (eventPlayed (here .line) (here .words) e increments .line) []) few in
+      fits-end (eventEnd (runOf (eventPlayed (here .line) (here .words) e increments .line) [])) (here .out) (here .place) (omega (arith, most))
+      (goes-number bytes (here .next) (here .number) (here .out) (here .place) g .2)
 
   -- what was played and written is where it stands then
   is-after : (e : Event) (increments : List ℕ) (next : ℕ) (p : Played) (words : List ℕ) → p ≡ eventPlayed (here .line) (here .words) e increments
-      → words ≡ playedWords (here .line) (here .words) e increments → (place : ℕ) (out : List ℕ)
-      → place ≡ behind (fits (p .line) (here .out) (here .place)) (here .place) (eventLine (here .number + 1) (p .answer) (runOf (p .line) []))
-      → out ≡ printed (fits (p .line) (here .out) (here .place)) (here .out) (here .place) (eventLine (here .number + 1) (p .answer) (runOf (p .line) []))
+      → words ≡ playedWords (here .line) (here .words) e increments → (end : List ℕ) → end ≡ eventEnd (runOf (p .line) []) → (place : ℕ) (out : List ℕ)
+      → place ≡ behind (fitsEnd end (here .out) (here .place)) (here .place) (lineWith (here .number + 1) (p .answer) end)
+      → out ≡ printed (fitsEnd end (here .out) (here .place)) (here .out) (here .place) (lineWith (here .number + 1) (p .answer) end)
       → standing 0 (p .line) words next (here .number + 1) out place ≡ after here e increments next
-  unfolding after lineOf comes
-  is-after e increments next p words ep ew place out el eo =
+  unfolding after lineOf comes eventLine
+  is-after e increments next p words ep ew end ee place out el eo =
+      let ends : List ℕ = eventEnd (runOf (eventPlayed (here .line) (here .words) e increments .line) []) in
+      let same : end ≡ ends = ee ∙ ap (λ (x : Played). eventEnd (runOf (x .line) [])) ep in
       let le : place ≡ here .place + length (lineOf here e increments) =
-      el ∙ ap (λ (x : Played). behind (fits (x .line) (here .out) (here .place)) (here .place) (eventLine (here .number + 1) (x .answer) (runOf (x .line) []))) ep
-      ∙ rw (line-fits e increments) refl in
+      el ∙ ap (λ (x : List ℕ). behind (fitsEnd x (here .out) (here .place)) (here .place) (lineWith (here .number + 1) (p .answer) x)) same
+      ∙ ap (λ (x : Played). behind (fitsEnd ends (here .out) (here .place)) (here .place) (lineWith (here .number + 1) (x .answer) ends)) ep
+      ∙ rw (end-fits e increments) refl in
       let oe : out ≡ laid (here .out) (here .place) (lineOf here e increments) =
-      eo ∙ ap (λ (x : Played). printed (fits (x .line) (here .out) (here .place)) (here .out) (here .place) (eventLine (here .number + 1) (x .answer) (runOf (x .line) []))) ep
-      ∙ rw (line-fits e increments) refl in
+      eo ∙ ap (λ (x : List ℕ). printed (fitsEnd x (here .out) (here .place)) (here .out) (here .place) (lineWith (here .number + 1) (p .answer) x)) same
+      ∙ ap (λ (x : Played). printed (fitsEnd ends (here .out) (here .place)) (here .out) (here .place) (lineWith (here .number + 1) (x .answer) ends)) ep
+      ∙ rw (end-fits e increments) refl in
       λ j. record { answer = 0; line = ep j .line; words = ew j; next = next; number = here .number + 1; out = oe j; place = le j }
 
   -- and so is what was read
   pub onward-next : (read : EventRead) → read ≡ readAt bytes here → read .answer ≡ 0
       → (p : Played) (words : List ℕ) → p ≡ stepped (here .line) (here .words) (read .event) (take (here .line .plan .stations) (read .increments))
       → words ≡ steppedWords (here .line) (here .words) (read .event) (take (here .line .plan .stations) (read .increments))
-      → (place : ℕ) (out : List ℕ)
-      → place ≡ behind (fits (p .line) (here .out) (here .place)) (here .place) (eventLine (here .number + 1) (p .answer) (runOf (p .line) []))
-      → out ≡ printed (fits (p .line) (here .out) (here .place)) (here .out) (here .place) (eventLine (here .number + 1) (p .answer) (runOf (p .line) []))
+      → (end : List ℕ) → end ≡ eventEnd (runOf (p .line) []) → (place : ℕ) (out : List ℕ)
+      → place ≡ behind (fitsEnd end (here .out) (here .place)) (here .place) (lineWith (here .number + 1) (p .answer) end)
+      → out ≡ printed (fitsEnd end (here .out) (here .place)) (here .out) (here .place) (lineWith (here .number + 1) (p .answer) end)
       → Onward bytes start (standing 0 (p .line) words (read .next) (here .number + 1) out place)
-  onward-next read er z p words ep ew place out el eo =
+  onward-next read er z p words ep ew end ee place out el eo =
       let increments : List ℕ = take (here .line .plan .stations) (read .increments) in
       let steps = step-played (here .line) (here .words) (read .event) increments (o .good) in
       let here-on =
       subst (λ (x : EventRead). x .answer ≡ 0 → Onward bytes start (after here (x .event) (take (here .line .plan .stations) (x .increments)) (x .next)))
       (sym er) (onward-after bytes start here o g) z in
       subst (Onward bytes start)
-      (sym (is-after (read .event) increments (read .next) p words (ep ∙ steps .0) (ew ∙ steps .1) place out el eo)) here-on
+      (sym (is-after (read .event) increments (read .next) p words (ep ∙ steps .0) (ew ∙ steps .1) end ee place out el eo)) here-on
 
   -- or the script can't be read on, and the line says so
   pub onward-read : (read : EventRead) → read ≡ readAt bytes here → (read .answer ≡ 0 → ⊥) → (place : ℕ) (out : List ℕ)
@@ -253,6 +266,270 @@ module _ (bytes : List ℕ) (start here : Standing) (o : Onward bytes start here
         out = sym oe j;
         place = sym le j;
       })
+
+-- ---- what is kept beside the record
+
+-- the last signed rounds of its stations, and the end of its line
+pub record Beside (n : ℕ) (l : Line) (signed end : List ℕ) (long : ℕ) : Type 0 where
+  pub stations : n ≡ l .plan .stations
+  pub noted : Noted l signed
+  pub twelve : length signed ≡ 12
+  pub room : length end ≡ 320
+  pub fits : long ≤ 320
+  pub ends : take long end ≡ eventEnd (runOf l [])
+
+-- what a valid record is played with
+pub record Ready (l : Line) (words signed end : List ℕ) (long : ℕ) : Type 0 where
+  pub good : badLine l words ≡ false
+  pub twelve : length (l .stations) ≡ 12
+  pub noted : Noted l signed
+  pub rounds : length signed ≡ 12
+  pub room : length end ≡ 320
+  pub fits : long ≤ 320
+  pub ends : take long end ≡ eventEnd (runOf l [])
+
+-- an end anew and an event's line with it
+pub record Shows (l : Line) (number answer : ℕ) (end out : List ℕ) (at long place : ℕ) (made written : List ℕ) : Type 0 where
+  pub long-is : long ≡ behind (fits l end 0) 0 (eventEnd (runOf l []))
+  pub made-is : made ≡ printed (fits l end 0) end 0 (eventEnd (runOf l []))
+  pub place-is : place ≡ behind (fitsEnd (take long made) out at) at (lineWith number answer (take long made))
+  pub written-is : written ≡ printed (fitsEnd (take long made) out at) out at (lineWith number answer (take long made))
+
+-- the end anew
+module _ (l : Line) (few : l .plan .stations ≤ 12) (end : List ℕ) (room : length end ≡ 320) where
+  end-roomy : fits l end 0 ≡ true
+  end-roomy = fits-well l end 0 few (omega (arith, room))
+
+  end-short : length (eventEnd (runOf l [])) ≤ 274
+  unfolding runOf
+  end-short = end-most (runOf l []) few
+
+  pub end-made : (long : ℕ) (made : List ℕ) → long ≡ behind (fits l end 0) 0 (eventEnd (runOf l []))
+      → made ≡ printed (fits l end 0) end 0 (eventEnd (runOf l []))
+      → (length made ≡ 320) × (long ≤ 320) × (take long made ≡ eventEnd (runOf l []))
+  unfolding laid
+  end-made long made el em =
+      let ends : List ℕ = eventEnd (runOf l []) in
+      let more : long ≡ 0 + length ends = el ∙ rw end-roomy refl in
+      let many : long ≡ length ends = omega (arith, more) in
+      let laid-is : made ≡ laid end 0 ends = em ∙ rw end-roomy refl in (
+        ap length laid-is ∙ length-laid end 0 ends (omega (arith, end-short, room)) ∙ room,
+        omega (arith, end-short, many),
+        (λ j. take (many j) (laid-is j)) ∙ take-append-seam ends (drop (0 + length ends) end),
+      )
+
+-- of a record and its rounds
+pub beside-new : (n : ℕ) (l : Line) (signed signed₀ end made : List ℕ) (long : ℕ) → n ≡ l .plan .stations → l .plan .stations ≤ 12
+    → length signed₀ ≡ 12 → signed ≡ signedTo l signed₀ (l .plan .stations) → length end ≡ 320
+    → long ≡ behind (fits l end 0) 0 (eventEnd (runOf l [])) → made ≡ printed (fits l end 0) end 0 (eventEnd (runOf l []))
+    → Beside n l signed made long
+beside-new n l signed signed₀ end made long e few twelve es room el em =
+    let anew = end-made l few end room long made el em in
+    record {
+      stations = e;
+      noted = noted-all l signed₀ (omega (arith, few, twelve)) es;
+      twelve = ap length es ∙ signed-length l signed₀ (l .plan .stations) ∙ twelve;
+      room = anew .0;
+      fits = anew .1;
+      ends = anew .2;
+    }
+
+-- a valid record with all of it
+pub ready-new : (l : Line) (words signed signed₀ end made : List ℕ) (long : ℕ) → badLine l words ≡ false → length (l .stations) ≡ 12
+    → length signed₀ ≡ 12 → signed ≡ signedTo l signed₀ (l .plan .stations) → length end ≡ 320
+    → long ≡ behind (fits l end 0) 0 (eventEnd (runOf l [])) → made ≡ printed (fits l end 0) end 0 (eventEnd (runOf l []))
+    → Ready l words signed made long
+ready-new l words signed signed₀ end made long good twelve rounds es room el em =
+    let b = beside-new (l .plan .stations) l signed signed₀ end made long refl (held-settled (held-is l words good) .few) rounds es room el em in
+    record { good = good; twelve = twelve; noted = b .noted; rounds = b .twelve; room = b .room; fits = b .fits; ends = b .ends }
+
+pub ready-beside : {l : Line} {words signed end : List ℕ} {long : ℕ} → Ready l words signed end long → Beside (l .plan .stations) l signed end long
+ready-beside r = record { stations = refl; noted = r .noted; twelve = r .rounds; room = r .room; fits = r .fits; ends = r .ends }
+
+-- at the start
+pub ready-onward : {l : Line} {words signed end : List ℕ} {long : ℕ} → Ready l words signed end long
+    → (bytes : List ℕ) (at number : ℕ) (out : List ℕ) (from : ℕ)
+    → Onward bytes (standing 0 l words at number out from) (standing 0 l words at number out from)
+ready-onward r bytes at number out from = record { same = refl; good = r .good; twelve = r .twelve; words = refl; out = refl }
+
+-- what came of it is what was to be played
+pub part-from : (bytes : List ℕ) (start end : Standing) → playedFrom (maxScript - start .number) bytes start ≡ end
+    → (partOf end ≡ partOf (playedFrom (maxScript - start .number) bytes start))
+    × ((end .words ≡ playedFrom (maxScript - start .number) bytes start .words) × (end .out ≡ playedFrom (maxScript - start .number) bytes start .out))
+part-from bytes start end e = (ap partOf (sym e), (ap (λ (x : Standing). x .words) (sym e), ap (λ (x : Standing). x .out) (sym e)))
+
+-- a step keeps the plan
+pub step-plan : (l : Line) (words : List ℕ) (e : Event) (increments : List ℕ) → stepped l words e increments .line .plan ≡ l .plan
+unfolding comes holding
+step-plan l words e increments = go (eqb (stepAnswer (runOf l words) e increments) 0)
+  where
+    go : (b : Bool) → pick b (holding l (effect (runOf l words) e increments)) l .plan ≡ l .plan
+    go true = refl
+    go false = refl
+
+-- one station in its new place
+module _ {n : ℕ} {l : Line} {signed end : List ℕ} {long : ℕ} (b : Beside n l signed end long) (i : ℕ) (h : Heard)
+    (k : i < l .plan .stations) where
+  -- station j then
+  seated-at : (j : ℕ) → j < l .plan .stations
+      → stationAt (runOf (seats l i h .line) []) j ≡ getD (set (l .stations) i (h .station)) j noStation
+  seated-at j m = sym (table-station (seats l i h .line) j m)
+
+  ends-same : ((j : ℕ) → j < l .plan .stations → stationAt (runOf (seats l i h .line) []) j .round ≡ stationAt (runOf l []) j .round)
+      → eventEnd (runOf (seats l i h .line) []) ≡ eventEnd (runOf l [])
+  unfolding runOf
+  ends-same rounds = end-same (runOf (seats l i h .line) []) (runOf l []) refl refl rounds
+
+  -- the one that heard, and each of the others
+  seated-here : length (l .stations) ≡ 12 → l .plan .stations ≤ 12 → (j : ℕ) → j ≡ i → stationAt (runOf (seats l i h .line) []) j ≡ h .station
+  seated-here twelve few j e =
+      rw e (seated-at i k ∙ getD-set-same (l .stations) i (h .station) noStation (omega (arith, twelve)))
+
+  seated-other : (j : ℕ) → j < l .plan .stations → (j ≡ i → ⊥) → stationAt (runOf (seats l i h .line) []) j ≡ stationAt (runOf l []) j
+  seated-other j m e = seated-at j m ∙ getD-set-other (l .stations) i j (h .station) noStation e ∙ table-station l j m
+
+  pub seats-noted : length (l .stations) ≡ 12 → l .plan .stations ≤ 12 → Noted (seats l i h .line) (set signed i (h .station .signed))
+  seats-noted twelve few = record { each = λ j m. go j m (eqb j i) refl }
+    where
+      go : (j : ℕ) → j < l .plan .stations → (x : Bool) → eqb j i ≡ x
+          → getD (set signed i (h .station .signed)) j 0 ≡ stationAt (runOf (seats l i h .line) []) j .signed
+      go j m true e =
+          let same : j ≡ i = eqb-true j i e in
+          ap (λ (y : ℕ). getD (set signed i (h .station .signed)) y 0) same
+          ∙ getD-set-same signed i (h .station .signed) 0 (omega (arith, b .twelve))
+          ∙ sym (ap (λ (s : Station). s .signed) (seated-here twelve few j same))
+      go j m false e =
+          let other = eqb-false j i e in
+          getD-set-other signed i j (h .station .signed) 0 other ∙ b .noted .each j m
+          ∙ sym (ap (λ (s : Station). s .signed) (seated-other j m other))
+
+  -- its end is the same where the round is
+  pub seats-end : length (l .stations) ≡ 12 → l .plan .stations ≤ 12 → h .station .round ≡ getD (l .stations) i noStation .round
+      → eventEnd (runOf (seats l i h .line) []) ≡ eventEnd (runOf l [])
+  seats-end twelve few q = ends-same (λ j m. go j m (eqb j i) refl)
+    where
+      go : (j : ℕ) → j < l .plan .stations → (x : Bool) → eqb j i ≡ x
+          → stationAt (runOf (seats l i h .line) []) j .round ≡ stationAt (runOf l []) j .round
+      go j m true e =
+          let same : j ≡ i = eqb-true j i e in
+          ap (λ (s : Station). s .round) (seated-here twelve few j same) ∙ q
+          ∙ ap (λ (s : Station). s .round) (table-station l i k ∙ ap (stationAt (runOf l [])) (sym same))
+      go j m false e = ap (λ (s : Station). s .round) (seated-other j m (eqb-false j i e))
+
+-- ---- a turn of the code
+
+module _ (bytes : List ℕ) (start here : Standing) (o : Onward bytes start here) {n : ℕ} {signed end : List ℕ} {long : ℕ}
+    (b : Beside n (here .line) signed end long) where
+  pub turn-held : Held (here .line) (here .words)
+  turn-held = held-is _ _ (o .good)
+
+  line-few : here .line .plan .stations ≤ 12
+  line-few = held-settled turn-held .few
+
+  pub turn-few : n ≤ 12
+  turn-few = omega (arith, b .stations, line-few)
+
+  pub turn-read : (read : EventRead) → read ≡ asEvent bytes (readEvent n bytes (here .next)) → read ≡ readAt bytes here
+  turn-read read e = e ∙ ap (λ (k : ℕ). asEvent bytes (readEvent k bytes (here .next))) (b .stations)
+
+  pub turn-barred : (x : Bool) (e : Event) (increments : List ℕ) → x ≡ barred n (here .line .plan .faulty) e increments
+      → x ≡ barred (here .line .plan .stations) (here .line .plan .faulty) e increments
+  turn-barred x e increments q = q ∙ ap (λ (k : ℕ). barred k (here .line .plan .faulty) e increments) (b .stations)
+
+  pub turn-hearer : (i : ℕ) (x : Bool) (e : Event) → i ≡ hearer n x e → i ≡ hearer (here .line .plan .stations) x e
+  turn-hearer i x e q = q ∙ ap (λ (k : ℕ). hearer k x e) (b .stations)
+
+  pub turn-nobody : (i : ℕ) (x : Bool) (e : Event) → i ≡ hearer n x e → n ≤ i → here .line .plan .stations ≤ hearer (here .line .plan .stations) x e
+  turn-nobody i x e q m = omega (arith, turn-hearer i x e q, m, b .stations)
+
+  -- the line of the record is as long as before
+  pub turn-plan : (p : Played) (e : Event) (increments : List ℕ) → p ≡ stepped (here .line) (here .words) e increments → p .line .plan .stations ≡ n
+  turn-plan p e increments q =
+      ap (λ (x : Played). x .line .plan .stations) q
+      ∙ ap (λ (x : Plan). x .stations) (step-plan (here .line) (here .words) e increments) ∙ sym (b .stations)
+
+  module _ (g : goesOn bytes (here .next) (here .number) (here .out) (here .place) ≡ true) (read : EventRead)
+      (er : read ≡ asEvent bytes (readEvent n bytes (here .next))) (z : read .answer ≡ 0) where
+    -- once the event is played and its line written
+    turn-goes : (p : Played) (w : List ℕ) → p ≡ stepped (here .line) (here .words) (read .event) (take n (read .increments))
+        → w ≡ steppedWords (here .line) (here .words) (read .event) (take n (read .increments)) → (ends : List ℕ) → ends ≡ eventEnd (runOf (p .line) [])
+        → (place : ℕ) (out : List ℕ)
+        → place ≡ behind (fitsEnd ends (here .out) (here .place)) (here .place) (lineWith (here .number + 1) (p .answer) ends)
+        → out ≡ printed (fitsEnd ends (here .out) (here .place)) (here .out) (here .place) (lineWith (here .number + 1) (p .answer) ends)
+        → Onward bytes start (standing 0 (p .line) w (read .next) (here .number + 1) out place)
+    turn-goes p w ep ew ends ee place out el eo =
+        let same : take n (read .increments) ≡ take (here .line .plan .stations) (read .increments) =
+        ap (λ (k : ℕ). take k (read .increments)) (b .stations) in
+        onward-next bytes start here o g read (turn-read read er) z p w
+        (ep ∙ ap (stepped (here .line) (here .words) (read .event)) same) (ew ∙ ap (steppedWords (here .line) (here .words) (read .event)) same)
+        ends ee place out el eo
+
+    -- it was heard by none
+    pub turn-passes : (p : Played) (w : List ℕ) → p ≡ stepped (here .line) (here .words) (read .event) (take n (read .increments))
+        → w ≡ steppedWords (here .line) (here .words) (read .event) (take n (read .increments)) → (signed₁ : List ℕ)
+        → signed₁ ≡ signedTo (p .line) signed (p .line .plan .stations) → (long₁ place : ℕ) (made out : List ℕ)
+        → Shows (p .line) (here .number + 1) (p .answer) end (here .out) (here .place) long₁ place made out
+        → Onward bytes start (standing 0 (p .line) w (read .next) (here .number + 1) out place) × Beside n (p .line) signed₁ made long₁
+    turn-passes p w ep ew signed₁ es long₁ place made out s =
+        let many = turn-plan p (read .event) (take n (read .increments)) ep in
+        let few : p .line .plan .stations ≤ 12 = omega (arith, many, turn-few) in
+        let anew = beside-new n (p .line) signed₁ signed end made long₁ (sym many) few (b .twelve) es (b .room) (s .long-is) (s .made-is) in
+        (turn-goes p w ep ew (take long₁ made) (anew .ends) place out (s .place-is) (s .written-is), anew)
+
+    -- station i heard it
+    module _ (x : Bool) (f : x ≡ barred n (here .line .plan .faulty) (read .event) (take n (read .increments))) (i : ℕ)
+        (q : i ≡ hearer n x (read .event)) (k : i < n) (h : Heard) (w : List ℕ)
+        (d : DoesBy signed (here .line .plan) (here .line .time) (here .line .count) (hearer (here .line .plan .stations) false (read .event))
+        (getD (here .line .stations) i noStation) (here .words) (read .event) h w) where
+      heard-step : (seats (here .line) i h ≡ stepped (here .line) (here .words) (read .event) (take n (read .increments)))
+          × (w ≡ steppedWords (here .line) (here .words) (read .event) (take n (read .increments)))
+      heard-step =
+          line-heard turn-held x (read .event) i (turn-hearer i x (read .event) q) (omega (arith, k, b .stations)) (take n (read .increments))
+          (turn-barred x (read .event) (take n (read .increments)) f) signed (b .noted) h w d
+
+      heard-noted : Noted (seats (here .line) i h .line) (set signed i (h .station .signed))
+      heard-noted = seats-noted b i h (omega (arith, k, b .stations)) (o .twelve) line-few
+
+      heard-twelve : length (set signed i (h .station .signed)) ≡ 12
+      heard-twelve = length-set signed i (h .station .signed) ∙ b .twelve
+
+      -- and starts a round
+      pub turn-starts : (long₁ place : ℕ) (made out : List ℕ)
+          → Shows (seats (here .line) i h .line) (here .number + 1) (h .answer) end (here .out) (here .place) long₁ place made out
+          → Onward bytes start (standing 0 (seats (here .line) i h .line) w (read .next) (here .number + 1) out place)
+          × Beside n (seats (here .line) i h .line) (set signed i (h .station .signed)) made long₁
+      turn-starts long₁ place made out s =
+          let anew = end-made (seats (here .line) i h .line) line-few end (b .room) long₁ made (s .long-is) (s .made-is) in (
+            turn-goes (seats (here .line) i h) w (heard-step .0) (heard-step .1) (take long₁ made) (anew .2) place out (s .place-is) (s .written-is),
+            record {
+              stations = b .stations;
+              noted = heard-noted;
+              twelve = heard-twelve;
+              room = anew .0;
+              fits = anew .1;
+              ends = anew .2;
+            },
+          )
+
+      -- or stays in its round
+      pub turn-stays : h .station .round ≡ getD (here .line .stations) i noStation .round → (place : ℕ) (out : List ℕ)
+          → place ≡ behind (fitsEnd (take long end) (here .out) (here .place)) (here .place) (lineWith (here .number + 1) (h .answer) (take long end))
+          → out ≡ printed (fitsEnd (take long end) (here .out) (here .place)) (here .out) (here .place) (lineWith (here .number + 1) (h .answer) (take long end))
+          → Onward bytes start (standing 0 (seats (here .line) i h .line) w (read .next) (here .number + 1) out place)
+          × Beside n (seats (here .line) i h .line) (set signed i (h .station .signed)) end long
+      turn-stays same place out elp eop =
+          let ends : take long end ≡ eventEnd (runOf (seats (here .line) i h .line) []) =
+          b .ends ∙ sym (seats-end b i h (omega (arith, k, b .stations)) (o .twelve) line-few same) in (
+            turn-goes (seats (here .line) i h) w (heard-step .0) (heard-step .1) (take long end) ends place out elp eop,
+            record {
+              stations = b .stations;
+              noted = heard-noted;
+              twelve = heard-twelve;
+              room = b .room;
+              fits = b .fits;
+              ends = ends;
+            },
+          )
 
 -- ---- the whole part
 

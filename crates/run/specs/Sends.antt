@@ -43,6 +43,13 @@ sent-few plan i o =
       part-most (not (eqb (o .relay) 0)) (count (others plan i % 4_096)) _ refl,
     )
 
+-- none where it did neither
+pub sent-quiet : (plan : Plan) (i : ℕ) (o : Outcome) → (not (o .ready) && eqb (o .relay) 0) ≡ true → 0 ≡ sentBy plan i o
+unfolding sentBy
+sent-quiet plan i o e =
+    let b = both (not (o .ready)) (eqb (o .relay) 0) e in
+    rw (not-true (o .ready) (b .0), b .1) refl
+
 -- words hold their names, and there is room for them behind `count` messages
 pub record Room (words : List ℕ) (count : ℕ) (plan : Plan) (time i round : ℕ) (o : Outcome) : Type 0 where
   pub place : i < 12

@@ -2,11 +2,14 @@
 // valid one and never tests it again, for whoever plays many.
 ghost use mathlib.Core.Path.{_≡_};
 ghost use mathlib.Core.List.{[], _++_};
-ghost use Prim.Native.Nat.{_+_, _*_, _≤_, _<_};
+ghost use mathlib.Core.Bool.{false, _&&_, not};
+ghost use Prim.Native.Nat.{_+_, _*_, _^_, _≤_, _<_};
+ghost use lib.Dec.{eqb};
 ghost use lib.ListN.{length};
 ghost use Rattle.clock.specs.Limits.{maxFlight};
 ghost use Rattle.clock.specs.Pick.{pick};
-ghost use Rattle.flight.specs.Message.{decode, coded};
+ghost use Rattle.flight.specs.Message.{decode, coded, canTake, answer, after, without};
+ghost use Rattle.event.specs.Event as rule11;
 ghost use Rattle.event.specs.declared.Event.the-variants.{Advance, Deliver, Send};
 ghost use Rattle.line.specs.Run as run;
 ghost use Rattle.line.specs.Record.{someStation};
@@ -59,10 +62,20 @@ fn part(test: bool, many: u64) -> u64
     if test { many } else { 0 }
 }
 
+// Whether a station that has done this sends nothing, as most do.
+fn quiet(o: Outcome) -> bool
+    ensures { λ r. ⌜ r ≡ (not (o .ready) && eqb (o .relay) 0) ⌝ }
+{
+    !o.ready & (o.relay == 0)
+}
+
 // How many messages station i sends to the others when it has done this.
 fn count_sent(plan: Plan, i: u64, o: Outcome) -> u64
     ensures { λ r. ⌜ r ≡ sent.sentBy plan i o ⌝ }
 {
+    if quiet(o) {
+        return 0;
+    }
     let many = mask::count(others(plan, i) % 4096);
     part(o.ready, many) + part(o.relay != 0, many)
 }
@@ -86,7 +99,7 @@ fn tell(
         (decode count (now (words .entry)) ++ run.sends plan (time .0) i round o)
         ⌝ }
 {
-    if !o.ready & (o.relay == 0) {
+    if quiet(o) {
         return count;
     }
     let to = others(plan, i);
@@ -112,103 +125,324 @@ fn tell(
 
 // ---- hearing
 
-// Station i has done this while `count` messages stand: it takes its new place, and what it sends follows them.
-fn take_place(mut l: Line, words: &mut [u64], count: u64, i: u64, s: Station, o: Outcome) -> Played
-    requires { ⌜ Settled l ⌝ }
-    requires { ⌜ i < l .plan .stations ⌝ }
-    requires { ⌜ s ≡ run.stationAt (runOf l []) i ⌝ }
-    requires { ⌜ 3 * (count + sent.sentBy (l .plan) i o) ≤ length (now words) ⌝ }
-    ensures { λ r. ⌜ r ≡ hear.placed l count i o ⌝ }
+// What an event comes to at the station that hears it: 0, or the number that refuses it, the station then, and how many
+// messages there are.
+struct Heard {
+    answer: u64,
+    station: Station,
+    count: u64,
+}
+
+// The message at this place leaves the flight, and where the last one lies then is noted. The answer is the number of
+// messages.
+fn take_out(words: &mut [u64], count: u64, at: u64, places: &mut [u64]) -> u64
+    requires { ⌜ at + 1 < 2 ^ 64 ⌝ }
+    ensures { λ r.
+        ⌜
+        r ≡ answer (canTake count (now (words .entry)) at) count (without at (decode count (now (words .entry)))) .count
+        ⌝ }
     ensures { λ _.
         ⌜
-        now (words .exit) ≡ coded (now (words .entry)) (decode count (now (words .entry)) ++ hear.sendsAt l i o)
+        now (words .exit) ≡ after (canTake count (now (words .entry)) at) (now (words .entry)) (without at (decode count (now (words .entry))))
         ⌝ }
 {
-    let after = tell(words, count, l.plan, l.time, i, s.round + 1, o);
-    let next = o.station;
-    l.stations[i as usize] = next;
-    l.count = after;
-    Played { answer: 0, line: l }
+    let left = flight::take_out(words, count, at);
+    flight::note_places(words, at, at + 1, places);
+    left.count
+}
+
+// What station i sends to the others, and where it lies is noted.
+fn tell_noted(
+    words: &mut [u64],
+    count: u64,
+    plan: Plan,
+    time: Moment,
+    i: u64,
+    round: u64,
+    o: Outcome,
+    places: &mut [u64],
+) -> u64
+    requires { ⌜ Room (now words) count plan (time .0) i round o ⌝ }
+    ensures { λ r. ⌜ r ≡ count + sent.sentBy plan i o ⌝ }
+    ensures { λ _.
+        ⌜
+        now (words .exit) ≡ coded (now (words .entry))
+        (decode count (now (words .entry)) ++ run.sends plan (time .0) i round o)
+        ⌝ }
+{
+    let after = tell(words, count, plan, time, i, round, o);
+    flight::note_places(words, count, after, places);
+    after
 }
 
 // Deliver: the message leaves the flight and its recipient gathers it.
-fn deliver(l: Line, words: &mut [u64], names: Names) -> Played
-    requires { ⌜ Held l (now words) ⌝ }
-    requires { ⌜ names .recipient < l .plan .stations ⌝ }
-    ensures { λ r. ⌜ r ≡ play.ruled l (now (words .entry)) (play.deliverOf names) [] ⌝ }
-    ensures { λ _. ⌜ now (words .exit) ≡ play.ruledWords l (now (words .entry)) (play.deliverOf names) [] ⌝ }
+fn deliver(
+    plan: Plan,
+    time: Moment,
+    count: u64,
+    s: Station,
+    words: &mut [u64],
+    places: &mut [u64],
+    names: Names,
+) -> Heard
+    requires { ⌜ hear.Stands plan time count (names .recipient) s (now words) ⌝ }
+    ensures { λ r.
+        ⌜
+        hear.Does plan time count (names .recipient) s (now (words .entry)) (play.deliverOf names) r (now (words .exit))
+        ⌝ }
 {
-    let at = flight::find(words, l.count, names);
-    if at == l.count {
-        return Played {
+    let at = flight::find(words, count, names, places);
+    if at == count {
+        return Heard {
             answer: 16,
-            line: l,
+            station: s,
+            count: count,
         };
     }
     let m = flight::message_at(words, at);
-    let i = names.recipient;
-    let s = l.stations[i as usize];
-    let o = station::heard(l.plan, names.round, m.signers, s);
-    if MAX_FLIGHT < l.count - 1 + count_sent(l.plan, names.recipient, o) {
-        return Played {
+    let o = station::heard(plan, names.round, m.signers, s);
+    if MAX_FLIGHT < count - 1 + count_sent(plan, names.recipient, o) {
+        return Heard {
             answer: 19,
-            line: l,
+            station: s,
+            count: count,
         };
     }
-    let left = flight::take_out(words, l.count, at);
-    take_place(l, words, left.count, i, s, o)
+    let left = take_out(words, count, at, places);
+    let next = o.station;
+    if quiet(o) {
+        return Heard {
+            answer: 0,
+            station: next,
+            count: left,
+        };
+    }
+    let after = tell_noted(
+        words,
+        left,
+        plan,
+        time,
+        names.recipient,
+        s.round + 1,
+        o,
+        places,
+    );
+    Heard {
+        answer: 0,
+        station: next,
+        count: after,
+    }
 }
 
 // Whether station i is a sound signer whose last signed round is another.
-fn unsigned_at(plan: Plan, s: Station, round: u64, signers: u64, i: u64) -> bool
-    ensures { λ r. ⌜ r ≡ hear.unsignedIn plan s round signers i ⌝ }
+fn unsigned_at(plan: Plan, signed: u64, round: u64, signers: u64, i: u64) -> bool
+    ensures { λ r. ⌜ r ≡ hear.unsignedIn plan signed round signers i ⌝ }
 {
-    mask::has(signers, i) & (line::sound(plan, i) & (s.signed != round))
+    mask::has(signers, i) & (line::sound(plan, i) & (signed != round))
 }
 
-// Whether some station is.
-fn some_unsigned(l: Line, round: u64, signers: u64) -> bool
-    requires { ⌜ Settled l ⌝ }
-    ensures { λ r. ⌜ r ≡ someStation (rule.unsignedAt (runOf l []) round signers) (l .plan .stations) ⌝ }
+// Whether some station is. The last signed rounds are lent beside it.
+fn some_unsigned(plan: Plan, signed: &[u64], round: u64, signers: u64) -> bool
+    requires { ⌜ plan .stations ≤ length (now signed) ⌝ }
+    ensures { λ r. ⌜ r ≡ someStation (hear.unsignedBy plan (now (signed .entry)) round signers) (plan .stations) ⌝ }
 {
     let mut bad = false;
     let mut i: u64 = 0;
-    while i < l.plan.stations {
-        let s = l.stations[i as usize];
-        bad = bad | unsigned_at(l.plan, s, round, signers, i);
+    while i < plan.stations {
+        bad = bad | unsigned_at(plan, signed[i as usize], round, signers, i);
         i += 1;
     }
     bad
 }
 
-// Faulty send: a round and a mask of signers, gathered at once.
-fn send(l: Line, words: &mut [u64], sender: u64, recipient: u64, round: u64, signers: u64) -> Played
-    requires { ⌜ Held l (now words) ⌝ }
-    requires { ⌜ recipient < l .plan .stations ⌝ }
-    ensures { λ r. ⌜ r ≡ play.ruled l (now (words .entry)) (Send sender recipient round signers) [] ⌝ }
-    ensures { λ _. ⌜ now (words .exit) ≡ play.ruledWords l (now (words .entry)) (Send sender recipient round signers) [] ⌝ }
+// Whether a signature that the send needs was not made; those of another round than the one waited for need none.
+fn unsigned(plan: Plan, signed: &[u64], s: Station, round: u64, signers: u64) -> bool
+    requires { ⌜ (plan .stations ≤ length (now signed)) × (s .round + 1 < 2 ^ 64) ⌝ }
+    ensures { λ r.
+        ⌜
+        r ≡ (eqb round (s .round + 1) && someStation (hear.unsignedBy plan (now (signed .entry)) round signers) (plan .stations))
+        ⌝ }
 {
-    if !mask::has(l.plan.faulty, sender) {
-        return Played {
+    if round != s.round + 1 {
+        return false;
+    }
+    some_unsigned(plan, signed, round, signers)
+}
+
+// Faulty send: a round and a mask of signers, gathered at once.
+fn send(
+    plan: Plan,
+    time: Moment,
+    count: u64,
+    s: Station,
+    signed: &[u64],
+    words: &mut [u64],
+    places: &mut [u64],
+    sender: u64,
+    recipient: u64,
+    round: u64,
+    signers: u64,
+) -> Heard
+    requires { ⌜ hear.Stands plan time count recipient s (now words) ⌝ }
+    requires { ⌜ length (now signed) ≡ 12 ⌝ }
+    ensures { λ r.
+        ⌜
+        hear.DoesBy (now (signed .entry)) plan time count recipient s (now (words .entry)) (Send sender recipient round signers) r
+        (now (words .exit))
+        ⌝ }
+{
+    if !mask::has(plan.faulty, sender) {
+        return Heard {
             answer: 17,
-            line: l,
+            station: s,
+            count: count,
         };
     }
-    let s = l.stations[recipient as usize];
-    if (round == s.round + 1) & some_unsigned(l, round, signers) {
-        return Played {
+    if unsigned(plan, signed, s, round, signers) {
+        return Heard {
             answer: 18,
-            line: l,
+            station: s,
+            count: count,
         };
     }
-    let o = station::heard(l.plan, round, signers, s);
-    if MAX_FLIGHT < l.count + count_sent(l.plan, recipient, o) {
-        return Played {
+    let o = station::heard(plan, round, signers, s);
+    if MAX_FLIGHT < count + count_sent(plan, recipient, o) {
+        return Heard {
             answer: 19,
-            line: l,
+            station: s,
+            count: count,
         };
     }
-    take_place(l, words, l.count, recipient, s, o)
+    let next = o.station;
+    if quiet(o) {
+        return Heard {
+            answer: 0,
+            station: next,
+            count: count,
+        };
+    }
+    let after = tell_noted(words, count, plan, time, recipient, s.round + 1, o, places);
+    Heard {
+        answer: 0,
+        station: next,
+        count: after,
+    }
+}
+
+// The station that hears an event; n where none does: an advance, or one that 11 bars.
+fn hearer(stations: u64, barred: bool, event: Event) -> u64
+    ensures { λ r. ⌜ r ≡ hear.hearer stations barred event ⌝ }
+{
+    if barred {
+        return stations;
+    }
+    match event {
+        Event::Advance(_) => stations,
+        Event::Deliver {
+            sender: _,
+            recipient,
+            round: _,
+            kind: _,
+        } => recipient,
+        Event::Send {
+            sender: _,
+            recipient,
+            round: _,
+            signers: _,
+        } => recipient,
+    }
+}
+
+// What it comes to there.
+fn hear(
+    plan: Plan,
+    time: Moment,
+    count: u64,
+    s: Station,
+    signed: &[u64],
+    words: &mut [u64],
+    places: &mut [u64],
+    event: Event,
+) -> Heard
+    requires { ⌜ hear.Stands plan time count (hear.hearer (plan .stations) false event) s (now words) ⌝ }
+    requires { ⌜ length (now signed) ≡ 12 ⌝ }
+    ensures { λ r.
+        ⌜
+        hear.DoesBy (now (signed .entry)) plan time count (hear.hearer (plan .stations) false event) s (now (words .entry)) event r
+        (now (words .exit))
+        ⌝ }
+{
+    match event {
+        Event::Advance(_) => Heard {
+            answer: 11,
+            station: s,
+            count: count,
+        },
+        Event::Deliver {
+            sender,
+            recipient,
+            round,
+            kind,
+        } => deliver(
+            plan,
+            time,
+            count,
+            s,
+            words,
+            places,
+            Names {
+                sender,
+                recipient,
+                round,
+                kind,
+            },
+        ),
+        Event::Send {
+            sender,
+            recipient,
+            round,
+            signers,
+        } => send(
+            plan,
+            time,
+            count,
+            s,
+            signed,
+            words,
+            places,
+            sender,
+            recipient,
+            round,
+            signers,
+        ),
+    }
+}
+
+// The last signed round of each station.
+fn note_signed(l: Line, signed: &mut [u64])
+    requires { ⌜ (l .plan .stations ≤ 12) × (l .plan .stations ≤ length (now signed)) ⌝ }
+    ensures { λ _. ⌜ now (signed .exit) ≡ hear.signedTo l (now (signed .entry)) (l .plan .stations) ⌝ }
+{
+    let mut i: u64 = 0;
+    while i < l.plan.stations {
+        let s = l.stations[i as usize];
+        signed[i as usize] = s.signed;
+        i += 1;
+    }
+}
+
+// The station that has heard takes its new place.
+fn seat(mut l: Line, i: u64, h: Heard) -> Played
+    requires { ⌜ i < 12 ⌝ }
+    ensures { λ r. ⌜ r ≡ hear.seats l i h ⌝ }
+{
+    let next = h.station;
+    l.stations[i as usize] = next;
+    l.count = h.count;
+    Played {
+        answer: h.answer,
+        line: l,
+    }
 }
 
 // ---- advancing
@@ -364,13 +598,15 @@ fn advance(l: Line, words: &mut [u64], d: u64, increments: &[u64]) -> Played
 
 // ---- events
 
-// An event of a valid record: 11 to 19, or 0 and what it does.
-fn step(l: Line, words: &mut [u64], event: Event, increments: &[u64]) -> Played
+// An event that no station hears: 11 where it is barred, else an advance.
+fn pass(l: Line, words: &mut [u64], barred: bool, event: Event, increments: &[u64]) -> Played
     requires { ⌜ Held l (now words) ⌝ }
+    requires { ⌜ barred ≡ rule11.barred (l .plan .stations) (l .plan .faulty) event (now increments) ⌝ }
+    requires { ⌜ l .plan .stations ≤ hear.hearer (l .plan .stations) barred event ⌝ }
     ensures { λ r. ⌜ r ≡ play.stepped l (now (words .entry)) event (now (increments .entry)) ⌝ }
     ensures { λ _. ⌜ now (words .exit) ≡ play.steppedWords l (now (words .entry)) event (now (increments .entry)) ⌝ }
 {
-    if event::barred(l.plan.stations, l.plan.faulty, event, increments) {
+    if barred {
         return Played {
             answer: 11,
             line: l,
@@ -379,27 +615,52 @@ fn step(l: Line, words: &mut [u64], event: Event, increments: &[u64]) -> Played
     match event {
         Event::Advance(d) => advance(l, words, d, increments),
         Event::Deliver {
-            sender,
-            recipient,
-            round,
-            kind,
-        } => deliver(
-            l,
-            words,
-            Names {
-                sender,
-                recipient,
-                round,
-                kind,
-            },
-        ),
+            sender: _,
+            recipient: _,
+            round: _,
+            kind: _,
+        } => Played {
+            answer: 11,
+            line: l,
+        },
         Event::Send {
-            sender,
-            recipient,
-            round,
-            signers,
-        } => send(l, words, sender, recipient, round, signers),
+            sender: _,
+            recipient: _,
+            round: _,
+            signers: _,
+        } => Played {
+            answer: 11,
+            line: l,
+        },
     }
+}
+
+// An event of a valid record: 11 to 19, or 0 and what it does.
+fn step(l: Line, words: &mut [u64], event: Event, increments: &[u64]) -> Played
+    requires { ⌜ Held l (now words) ⌝ }
+    ensures { λ r. ⌜ r ≡ play.stepped l (now (words .entry)) event (now (increments .entry)) ⌝ }
+    ensures { λ _. ⌜ now (words .exit) ≡ play.steppedWords l (now (words .entry)) event (now (increments .entry)) ⌝ }
+{
+    let barred = event::barred(l.plan.stations, l.plan.faulty, event, increments);
+    let i = hearer(l.plan.stations, barred, event);
+    if i >= l.plan.stations {
+        return pass(l, words, barred, event, increments);
+    }
+    let mut signed = [0u64; 12];
+    note_signed(l, &mut signed);
+    let mut places = [0u64; 1];
+    let s = l.stations[i as usize];
+    let h = hear(
+        l.plan,
+        l.time,
+        l.count,
+        s,
+        &signed,
+        words,
+        &mut places,
+        event,
+    );
+    seat(l, i, h)
 }
 
 // An event of any record: 10, then as for a valid one. Refused, the run and the words are as they were.

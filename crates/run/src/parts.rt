@@ -2,7 +2,11 @@
 // as long as there are events and room for their lines.
 ghost use mathlib.Core.Path.{_≡_};
 ghost use Prim.Native.Nat.{_≤_};
+ghost use Prim.Native.Nat.{_-_};
+ghost use lib.ListN.{length};
+ghost use Rattle.clock.specs.Limits.{maxScript};
 ghost use Rattle.run.specs.Part as part;
+ghost use Rattle.run.specs.PartLaws as laws;
 use clock::MAX_SCRIPT;
 use clock::Moment;
 use clock::Reading;
@@ -115,6 +119,112 @@ fn goes_on(bytes: &[u8], next: usize, number: u64, out: &[u8], place: usize) -> 
     (next < bytes.len()) & (number < MAX_SCRIPT) & text::roomy(out, place)
 }
 
+// The end of a line, and how far a line has come with it.
+struct Shown {
+    long: usize,
+    place: usize,
+}
+
+// Writes the end of a line anew, and an event's line with it.
+fn show(l: Line, number: u64, answer: u64, end: &mut [u8], out: &mut [u8], at: usize) -> Shown
+    requires { ⌜ (l .plan .stations ≤ 12) × (length (now end) ≡ 320) ⌝ }
+    ensures { λ r.
+        ⌜
+        laws.Shows l number answer (now (end .entry)) (now (out .entry)) at (r .long) (r .place) (now (end .exit)) (now (out .exit))
+        ⌝ }
+{
+    let long = text::line_end(l, end);
+    Shown {
+        long: long,
+        place: text::event_line(number, answer, &end[..long], out, at),
+    }
+}
+
+// Plays them on a valid record. Beside it are kept the last signed rounds, where messages were last put, and the end of the last
+// line.
+fn play_on(
+    l: Line,
+    words: &mut [u64],
+    bytes: &[u8],
+    at: usize,
+    played: u64,
+    out: &mut [u8],
+    from: usize,
+    signed: &mut [u64],
+    places: &mut [u64],
+    end: &mut [u8],
+    ends: usize,
+) -> Part
+    requires { ⌜ laws.Ready l (now words) (now signed) (now end) ends ⌝ }
+    ensures { λ r. ⌜ r ≡ part.partOf (part.playedFrom (maxScript - played) (now (bytes .entry)) (part.standing 0 l (now (words .entry)) at played (now (out .entry)) from)) ⌝ }
+    ensures { λ _. ⌜ now (words .exit) ≡ part.playedFrom (maxScript - played) (now (bytes .entry)) (part.standing 0 l (now (words .entry)) at played (now (out .entry)) from) .words ⌝ }
+    ensures { λ _. ⌜ now (out .exit) ≡ part.playedFrom (maxScript - played) (now (bytes .entry)) (part.standing 0 l (now (words .entry)) at played (now (out .entry)) from) .out ⌝ }
+{
+    let n = l.plan.stations;
+    let mut line = l;
+    let mut long = ends;
+    let mut next = at;
+    let mut number = played;
+    let mut place = from;
+    while goes_on(bytes, next, number, out, place) {
+        let read = script::read_event(bytes, next, n);
+        if read.answer != 0 {
+            return Part {
+                answer: read.answer,
+                line: line,
+                next: read.next,
+                number: number,
+                place: text::script_line(read.answer, out, place),
+            };
+        }
+        let event = read.event;
+        let increments = read.increments;
+        let barred = event::barred(n, line.plan.faulty, event, &increments[..n as usize]);
+        let i = super::hearer(n, barred, event);
+        next = read.next;
+        number += 1;
+        if i >= n {
+            let p = super::pass(line, words, barred, event, &increments[..n as usize]);
+            flight::note_places(words, line.count, p.line.count, places);
+            line = p.line;
+            super::note_signed(line, signed);
+            let shown = show(line, number, p.answer, end, out, place);
+            long = shown.long;
+            place = shown.place;
+            continue;
+        }
+        let was = line.stations[i as usize];
+        let h = super::hear(
+            line.plan,
+            line.time,
+            line.count,
+            was,
+            signed,
+            words,
+            places,
+            event,
+        );
+        let s = h.station;
+        line.stations[i as usize] = s;
+        line.count = h.count;
+        signed[i as usize] = s.signed;
+        if s.round != was.round {
+            let shown = show(line, number, h.answer, end, out, place);
+            long = shown.long;
+            place = shown.place;
+            continue;
+        }
+        place = text::event_line(number, h.answer, &end[..long], out, place);
+    }
+    Part {
+        answer: 0,
+        line: line,
+        next: next,
+        number: number,
+        place: place,
+    }
+}
+
 // Plays the events of a script from a place on and writes their lines into the buffer, as far as it has room. The record is
 // checked first: 10, and nothing is played.
 pub fn play_part(
@@ -148,35 +258,24 @@ pub fn play_part(
             place: from,
         };
     }
-    let mut line = seated(l);
-    let mut next = at;
-    let mut number = played;
-    let mut place = from;
-    while goes_on(bytes, next, number, out, place) {
-        let n = line.plan.stations;
-        let read = script::read_event(bytes, next, n);
-        if read.answer != 0 {
-            return Part {
-                answer: read.answer,
-                line: line,
-                next: read.next,
-                number: number,
-                place: text::script_line(read.answer, out, place),
-            };
-        }
-        let increments = read.increments;
-        let event = read.event;
-        let p = super::step(line, words, event, &increments[..n as usize]);
-        line = p.line;
-        next = read.next;
-        number += 1;
-        place = text::event_line(number, p.answer, line, out, place);
-    }
-    Part {
-        answer: 0,
-        line: line,
-        next: next,
-        number: number,
-        place: place,
-    }
+    let line = seated(l);
+    let mut signed = [0u64; 12];
+    super::note_signed(line, &mut signed);
+    let mut places = [0u64; 512];
+    flight::note_places(words, 0, line.count, &mut places);
+    let mut end = [0u8; 320];
+    let long = text::line_end(line, &mut end);
+    play_on(
+        line,
+        words,
+        bytes,
+        at,
+        played,
+        out,
+        from,
+        &mut signed,
+        &mut places,
+        &mut end,
+        long,
+    )
 }

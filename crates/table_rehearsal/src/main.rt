@@ -21,14 +21,23 @@ fn line_of(rest: Rest, seats: Seats) -> Line {
     }
 }
 
+// Event number, answer and the first `long` bytes of the end of its line.
+fn show_line(number: u64, answer: u64, end: &[u8], long: usize) {
+    if long <= end.len() {
+        let mut out = [0u8; 320];
+        let count = text::event_line(number, answer, &end[..long], &mut out, 0);
+        paper::print(&out, count);
+    }
+}
+
 // Event number, answer, real time and the round of each station.
 fn show(number: u64, turned: Turned) {
-    let mut out = [0u8; 320];
+    let mut end = [0u8; 320];
     let answered = turned.answered;
     let rest = answered.rest;
     let seats = turned.seats;
-    let count = text::event_line(number, answered.answer, line_of(rest, seats), &mut out, 0);
-    paper::print(&out, count);
+    let long = text::line_end(line_of(rest, seats), &mut end);
+    show_line(number, answered.answer, &end, long);
 }
 
 // An event on the table, and its line.

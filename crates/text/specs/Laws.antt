@@ -19,8 +19,9 @@ use Rattle.line.specs.declared.Line.{Line}
 use Rattle.line.specs.Run.{Run, noStation, stationAt}
 use Rattle.line.specs.Held.{runOf}
 use Rattle.line.specs.HeldLaws.{place-some}
+use Rattle.setup.specs.declared.Plan.{Plan}
 use Rattle.station.specs.declared.Station.{Station}
-use Rattle.text.specs.Text.{placesFrom, places, lastDigits, decimal, single, spaced, roundOf, roundsTo, roomy, fits}
+use Rattle.text.specs.Text.{placesFrom, places, lastDigits, decimal, single, spaced, roundOf, roundsTo, eventEnd, roomy, fits, fitsEnd}
 
 -- as many digits as asked for
 pub length-digits : (k x : ℕ) → length (lastDigits k x) ≡ k
@@ -114,6 +115,24 @@ module _ (x count rest : ℕ) (c : Counted x count rest) (h : rest ≡ 0 → ⊥
                 rw (places-high k rest (omega arith), ne-eqb (rest / 10) 0 (λ z. omega arith), back) (omega arith)
           ]
 
+-- nothing is left
+pub counted-end : {x count rest : ℕ} → Counted x count rest → rest ≡ 0 → count ≡ places x
+counted-end c e = sym (c .same ∙ rw (eq-eqb _ 0 e) refl)
+
+-- two to five at once
+module _ (x : ℕ) (h : x < 2 ^ 64) where
+  pub counted-2 : 10 ≤ x → Counted x 2 (x / 100)
+  counted-2 b = subst (λ k. Counted x 2 k) (omega arith) (counted-next x 1 (x / 10) (counted-start x h) (λ e. omega arith))
+
+  pub counted-3 : 100 ≤ x → Counted x 3 (x / 1000)
+  counted-3 b = subst (λ k. Counted x 3 k) (omega arith) (counted-next x 2 (x / 100) (counted-2 (omega arith)) (λ e. omega arith))
+
+  pub counted-4 : 1000 ≤ x → Counted x 4 (x / 10000)
+  counted-4 b = subst (λ k. Counted x 4 k) (omega arith) (counted-next x 3 (x / 1000) (counted-3 (omega arith)) (λ e. omega arith))
+
+  pub counted-5 : 10000 ≤ x → Counted x 5 (x / 100000)
+  counted-5 b = subst (λ k. Counted x 5 k) (omega arith) (counted-next x 4 (x / 10000) (counted-4 (omega arith)) (λ e. omega arith))
+
 -- ---- one digit in front
 
 set-seam : (p : List ℕ) (x : ℕ) (q : List ℕ) (at b : ℕ) → length p ≡ at → set (p ++ x ∷ q) at b ≡ p ++ b ∷ q
@@ -201,6 +220,37 @@ one-digit x h =
     let p : placesFrom 19 x ≡ 1 = places-low 18 x h in
     let d : x / 1 % 10 ≡ x = omega arith in
     (p, rw (p, d) refl)
+
+-- two digits
+pub two-digits : (x : ℕ) → 10 ≤ x → x < 100 → (places x ≡ 2) × (decimal x ≡ lastDigits 2 x)
+unfolding places decimal
+two-digits x b h =
+    let p : placesFrom 19 x ≡ 2 = rw (places-high 18 x b, places-low 17 (x / 10) (omega arith)) refl in
+    (p, rw p refl)
+
+-- the tens and the ones behind them
+pub last-two : (x : ℕ) → x < 100 → lastDigits 2 x ≡ single (48 + x / 10) ++ single (48 + x % 10)
+unfolding lastDigits
+last-two x h =
+    let a : x / 10 ^ 1 % 10 ≡ x / 10 = omega arith in
+    let b : x / 10 ^ 0 % 10 ≡ x % 10 = omega arith in
+    rw (a, b) refl
+
+-- four digits are two and two
+pub four-digits : (x : ℕ) → 1000 ≤ x → x < 10000 → (places x ≡ 4) × (decimal x ≡ lastDigits 2 (x / 100) ++ lastDigits 2 (x % 100))
+unfolding places decimal lastDigits
+four-digits x b h =
+    let p : placesFrom 19 x ≡ 4 =
+    rw (places-high 18 x (omega arith), places-high 17 (x / 10) (omega arith), places-high 16 (x / 10 / 10) (omega arith), places-low 15 (x / 10 / 10 / 10) (omega arith)) refl in
+    let d₃ : x / 10 ^ 3 % 10 ≡ x / 100 / 10 ^ 1 % 10 = omega arith in
+    let d₂ : x / 10 ^ 2 % 10 ≡ x / 100 / 10 ^ 0 % 10 = omega arith in
+    let d₁ : x / 10 ^ 1 % 10 ≡ x % 100 / 10 ^ 1 % 10 = omega arith in
+    let d₀ : x / 10 ^ 0 % 10 ≡ x % 100 / 10 ^ 0 % 10 = omega arith in
+    (p, rw p (four d₃ d₂ d₁ d₀))
+  where
+    four : {a b c d e f g i : ℕ} → a ≡ e → b ≡ f → c ≡ g → d ≡ i
+        → (48 + a) ∷ (48 + b) ∷ (48 + c) ∷ (48 + d) ∷ [] ≡ (48 + e) ∷ (48 + f) ∷ (48 + g) ∷ (48 + i) ∷ []
+    four p q r s = rw (p, q, r, s) refl
 
 -- ---- one piece behind another
 
@@ -291,16 +341,44 @@ module _ (r : Run) (out : List ℕ) (at : ℕ) where
   unfolding roundsTo
   rounds-next i b h e f = rw (add-one i) (written-more h (roundOf r i) (21 * (12 - suc i)) (omega (arith, round-most r i)) e f)
 
+-- ---- the same end
+
+rounds-same : (r s : Run) (k : ℕ) → r .plan ≡ s .plan → ((i : ℕ) → i < k → stationAt r i .round ≡ stationAt s i .round) → roundsTo r k ≡ roundsTo s k
+unfolding roundsTo roundOf
+rounds-same r s zero p h = refl
+rounds-same r s (suc k) p h = rw (rounds-same r s k p (λ i b. h i (omega arith)), p, h k (omega arith)) refl
+
+-- two runs of one plan at one time whose stations are in the same rounds
+pub end-same : (r s : Run) → r .plan ≡ s .plan → r .time ≡ s .time
+    → ((i : ℕ) → i < r .plan .stations → stationAt r i .round ≡ stationAt s i .round) → eventEnd r ≡ eventEnd s
+unfolding eventEnd
+end-same r s p t h =
+    let rounds = rounds-same r s (r .plan .stations) p h ∙ ap (λ (q : Plan). roundsTo s (q .stations)) p in
+    rw (rounds, t) refl
+
 -- ---- where there is no room
 
 pub fits-not : (l : Line) (out : List ℕ) (at : ℕ) → 12 < l .plan .stations → fits l out at ≡ false
 unfolding fits
 fits-not l out at h = rw (lt-leb (l .plan .stations) 12 h) refl
 
-pub fits-short : (l : Line) (out : List ℕ) (at : ℕ) → l .plan .stations ≤ 12 → length out < at + 320 → fits l out at ≡ false
-unfolding fits roomy
-fits-short l out at h b = rw (le-leb (l .plan .stations) 12 h, lt-leb (at + 320) (length out) b) refl
-
 pub fits-well : (l : Line) (out : List ℕ) (at : ℕ) → l .plan .stations ≤ 12 → at + 320 ≤ length out → fits l out at ≡ true
 unfolding fits roomy
 fits-well l out at h b = rw (le-leb (l .plan .stations) 12 h, le-leb (at + 320) (length out) b) refl
+
+pub fits-none : (l : Line) (out : List ℕ) (at : ℕ) → l .plan .stations ≤ 12 → roomy out at ≡ false → fits l out at ≡ false
+unfolding fits
+fits-none l out at h b = rw (le-leb (l .plan .stations) 12 h, b) refl
+
+module _ (end out : List ℕ) (at : ℕ) where
+  pub end-long : 278 < length end → fitsEnd end out at ≡ false
+  unfolding fitsEnd
+  end-long h = rw (lt-leb (length end) 278 h) refl
+
+  pub end-none : length end ≤ 278 → roomy out at ≡ false → fitsEnd end out at ≡ false
+  unfolding fitsEnd
+  end-none h b = rw (le-leb (length end) 278 h, b) refl
+
+  pub fits-end : length end ≤ 278 → roomy out at ≡ true → fitsEnd end out at ≡ true
+  unfolding fitsEnd
+  fits-end h b = rw (le-leb (length end) 278 h, b) refl

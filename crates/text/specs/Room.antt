@@ -9,7 +9,7 @@ use lib.Dec.{leb}
 use lib.ListN.{length, length-append}
 use borrow.Author.Tests.{le-leb, lt-leb, leb-true}
 use Rattle.line.specs.Run.{Run}
-use Rattle.text.specs.Text.{decimal, single, spaced, roundsTo, eventLine, roomy}
+use Rattle.text.specs.Text.{decimal, single, spaced, roundsTo, eventEnd, lineWith, eventLine, roomy}
 use Rattle.text.specs.Laws.{places-few, length-decimal, length-spaced, rounds-most}
 
 pub roomy-not : (out : List ℕ) (at : ℕ) → length out < 320 → false ≡ roomy out at
@@ -27,22 +27,28 @@ pub roomy-has : (out : List ℕ) (at : ℕ) → roomy out at ≡ true → at + 3
 unfolding roomy
 roomy-has out at e = leb-true _ _ e
 
--- it is enough for an event's line
+-- ---- how long a line is
+
+pieces-most : (a b c : List ℕ) (A B C : ℕ) → length a ≤ A → length b ≤ B → length c ≤ C → length (a ++ b ++ c) ≤ A + B + C
+pieces-most a b c A B C p q r = omega (arith, length-append (a ++ b) c, length-append a b)
+
+decimal-most : (x : ℕ) → length (decimal x) ≤ 20
+decimal-most x = omega (arith, length-decimal x, places-few x)
+
+spaced-most : (x : ℕ) → length (spaced x) ≤ 21
+spaced-most x = omega (arith, length-spaced x, places-few x)
+
+-- the end of the line of at most twelve stations
+pub end-most : (r : Run) → r .plan .stations ≤ 12 → length (eventEnd r) ≤ 274
+unfolding eventEnd
+end-most r few = pieces-most (spaced _) (roundsTo r (r .plan .stations)) (single _) 21 252 1 (spaced-most _) (omega (arith, rounds-most r (r .plan .stations))) (omega arith)
+
+-- there is room for a number and an answer before an end
+pub with-most : (number answer : ℕ) (end : List ℕ) → length end ≤ 278 → length (lineWith number answer end) ≤ 319
+unfolding lineWith
+with-most number answer end h = pieces-most (decimal _) (spaced _) end 20 21 278 (decimal-most _) (spaced-most _) h
+
+-- and so for an event's line
 pub line-most : (number answer : ℕ) (r : Run) → r .plan .stations ≤ 12 → length (eventLine number answer r) ≤ 320
 unfolding eventLine
-line-most number answer r few =
-    let rounds : List ℕ = roundsTo r (r .plan .stations) in
-    omega (
-      arith,
-      length-append (decimal number ++ spaced answer ++ spaced (r .time) ++ rounds) (single 10),
-      length-append (decimal number ++ spaced answer ++ spaced (r .time)) rounds,
-      length-append (decimal number ++ spaced answer) (spaced (r .time)),
-      length-append (decimal number) (spaced answer),
-      length-decimal number,
-      places-few number,
-      length-spaced answer,
-      places-few answer,
-      length-spaced (r .time),
-      places-few (r .time),
-      rounds-most r (r .plan .stations),
-    )
+line-most number answer r few = omega (arith, with-most number answer (eventEnd r) (omega (arith, end-most r few)))

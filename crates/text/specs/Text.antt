@@ -48,9 +48,17 @@ unfoldable pub roundsTo : Run → ℕ → List ℕ
 roundsTo r zero = []
 roundsTo r (suc k) = roundsTo r k ++ roundOf r k
 
+-- the end of an event's line: real time and the round of each station
+unfoldable pub eventEnd : Run → List ℕ
+eventEnd r = spaced (r .time) ++ roundsTo r (r .plan .stations) ++ single 10
+
+-- event number, answer and an end
+unfoldable pub lineWith : ℕ → ℕ → List ℕ → List ℕ
+lineWith number answer end = decimal number ++ spaced answer ++ end
+
 -- event number, answer, real time and the round of each station, single spaces between
 unfoldable pub eventLine : ℕ → ℕ → Run → List ℕ
-eventLine number answer r = decimal number ++ spaced answer ++ spaced (r .time) ++ roundsTo r (r .plan .stations) ++ single 10
+eventLine number answer r = lineWith number answer (eventEnd r)
 
 -- a word and a number
 unfoldable pub told : List ℕ → ℕ → List ℕ
@@ -73,6 +81,10 @@ roomy out at = leb (at + 320) (length out)
 -- and the run has at most twelve stations
 unfoldable pub fits : Line → List ℕ → ℕ → Bool
 fits l out at = leb (l .plan .stations) 12 && roomy out at
+
+-- and the end of its line is no longer than any: with a number and an answer of twenty digits it has room
+unfoldable pub fitsEnd : List ℕ → List ℕ → ℕ → Bool
+fitsEnd end out at = leb (length end) 278 && roomy out at
 
 -- the buffer with the bytes laid into it, where it has room
 abbrev pub printed : Bool → List ℕ → ℕ → List ℕ → List ℕ

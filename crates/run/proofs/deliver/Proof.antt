@@ -1,11 +1,11 @@
 -- `run::deliver` comes to the deliver's table and effect: 16, then 19, else the message leaves the flight, its recipient takes its
 -- new place and what it sends follows. Assumes nothing.
+use Prim.Native.Nat.{_+_}
+use mathlib.Core.Path.{sym, _∙_}
 use native.Mathlib.Omega.{arith}
 use denote.Ref.{now}
-use Rattle.run.specs.Limits.{held-settled, held-count, table-station}
-use Rattle.run.specs.Sends.{sent-few}
-use Rattle.run.specs.Play.{comes-no}
-use Rattle.run.specs.Hearing.{heard-is, deliver-none, found-below, deliver-full, deliver-room, deliver-comes}
+use Rattle.run.specs.Sends.{sent-few, sends-none}
+use Rattle.run.specs.Hearing.{stands-found, lies-limits, does-none, does-below, does-full, does-room, does-comes}
 use borrow.Author.Needs.{needs}
 use Rattle.run.proofs.deliver.Statement.{statement}
 use Rattle.run.proofs.deliver.Tie as tie
@@ -16,17 +16,16 @@ find-requires c κs = search needs
 same-length : tie.Need-same-length
 same-length c = search needs
 
+same-length-2 : tie.Need-same-length-2
+same-length-2 c = search needs
+
 returns : tie.Need-returns
-returns c = comes-no _ _ _ _ 16 (deliver-none _ _ (c .before .before .before .before .pre .0) _ _ (c .before .find .ensures) (c .if1 .taken)) (λ z. omega arith)
+returns c =
+    let a = c .before .before .before .before .before .before .args in
+    does-none (a .plan) (a .time) (a .count) (a .s) (now (a .words)) (a .names) _ (stands-found (c .before .before .before .before .before .before .pre) _ _ (c .before .find .ensures)) (c .if1 .taken)
 
 message-at-requires : tie.Need-message-at-requires
 message-at-requires c κs = search needs
-
-mul-s : tie.Need-mul-s
-mul-s c = omega (arith, held-settled (c .before .before .before .before .before .before .pre .0) .few, c .before .before .before .before .before .before .pre .1)
-
-element-copy-out-s : tie.Need-element-copy-out-s
-element-copy-out-s c = omega (arith, held-settled (c .before .before .before .before .before .before .pre .0) .few, c .before .before .before .before .before .before .pre .1)
 
 heard-requires : tie.Need-heard-requires
 heard-requires c κs = search needs
@@ -34,58 +33,77 @@ heard-requires c κs = search needs
 sub-if2 : tie.Need-sub-if2
 sub-if2 c =
     let a = c .before .before .before .before .before .before .before .before .before .args in
-    let h = c .before .before .before .before .before .before .before .before .before .pre .0 in
-    let k = c .before .before .before .before .before .before .before .before .before .pre .1 in
-    let heard = heard-is (a .t1) _ _ _ _ _ (held-settled h) k (table-station (a .t1) (a .names .recipient) k) (c .heard .ensures) in
-    omega (arith, found-below (a .t1) (now (a .words)) h (a .names) _ (c .before .before .before .before .before .before .find .ensures) (c .before .before .before .before .before .if1 .left) _ (c .before .before .before .message-at .ensures) _ heard k)
+    omega (arith, does-below (a .plan) (a .time) (a .count) (a .s) (now (a .words)) (a .names) _ (stands-found (c .before .before .before .before .before .before .before .before .before .pre) _ _ (c .before .before .before .before .find .ensures)) (c .before .before .before .if1 .left) _ (c .before .message-at .ensures) _ (c .heard .ensures) (c .before .before .before .before .before .before .before .before .before .pre))
 
 count-sent-requires : tie.Need-count-sent-requires
 count-sent-requires c κs = search needs
 
 add-if2 : tie.Need-add-if2
 add-if2 c =
-    let a = c .before .before .before .before .before .before .before .before .before .before .before .args in
-    omega (arith, c .count-sent .ensures, sent-few (a .t1 .plan) (a .names .recipient) (c .before .before .heard .result), held-count (c .before .before .before .before .before .before .before .before .before .before .before .pre .0))
-
-same-length-2 : tie.Need-same-length-2
-same-length-2 c = search needs
-
-returns-2 : tie.Need-returns-2
-returns-2 c =
-    let a = c .before .before .before .before .before .before .before .before .before .before .before .before .args in
-    let h = c .before .before .before .before .before .before .before .before .before .before .before .before .pre .0 in
-    let k = c .before .before .before .before .before .before .before .before .before .before .before .before .pre .1 in
-    let heard = heard-is (a .t1) _ _ _ _ _ (held-settled h) k (table-station (a .t1) (a .names .recipient) k) (c .before .before .before .heard .ensures) in
-    let many = c .before .count-sent .ensures in
-    comes-no _ _ _ _ 19 (deliver-full _ _ h _ _ (c .before .before .before .before .before .before .before .before .before .find .ensures) (c .before .before .before .before .before .before .before .before .if1 .left) _ (c .before .before .before .before .before .before .message-at .ensures) _ heard k (omega arith)) (λ z. omega arith)
-
-take-out-requires : tie.Need-take-out-requires
-take-out-requires c κs = search needs
-
-take-place-requires : tie.Need-take-place-requires
-take-place-requires c κs =
-    let a = c .before .before .before .before .before .before .before .before .before .before .before .before .before .before .before .before .before .args in
-    let h = c .before .before .before .before .before .before .before .before .before .before .before .before .before .before .before .before .before .pre .0 in
-    let k = c .before .before .before .before .before .before .before .before .before .before .before .before .before .before .before .before .before .pre .1 in
-    let here = table-station (a .t1) (a .names .recipient) k in
-    let heard = heard-is (a .t1) _ _ _ _ _ (held-settled h) k here (c .before .before .before .before .before .before .before .before .heard .ensures) in
-    let many = c .before .before .before .before .before .before .count-sent .ensures in
-    let out = c .before .before .before .take-out .ensures in
-    (held-settled h, (k, (here, deliver-room _ _ h _ _ (c .before .before .before .before .before .before .before .before .before .before .before .before .before .before .find .ensures) (c .before .before .before .before .before .before .before .before .before .before .before .before .before .if1 .left) _ (c .before .before .before .before .before .before .before .before .before .before .before .message-at .ensures) _ heard k (omega arith) _ _ (out .0) (out .1))))
+    let a = c .before .before .before .before .before .before .before .before .before .before .args in
+    omega (arith, c .count-sent .ensures, sent-few (a .plan) (a .names .recipient) (c .before .heard .result), lies-limits (c .before .before .before .before .before .before .before .before .before .before .pre .lies) .3)
 
 same-length-3 : tie.Need-same-length-3
 same-length-3 c = search needs
 
+same-length-4 : tie.Need-same-length-4
+same-length-4 c = search needs
+
+returns-2 : tie.Need-returns-2
+returns-2 c =
+    let a = c .before .before .before .before .before .before .before .before .before .before .before .args in
+    let many = c .before .count-sent .ensures in
+    does-full (a .plan) (a .time) (a .count) (a .s) (now (a .words)) (a .names) _ (stands-found (c .before .before .before .before .before .before .before .before .before .before .before .pre) _ _ (c .before .before .before .before .before .before .find .ensures)) (c .before .before .before .before .before .if1 .left) _ (c .before .before .before .message-at .ensures) _ (c .before .before .heard .ensures) (omega arith)
+
+take-out-requires : tie.Need-take-out-requires
+take-out-requires c κs =
+    let a = c .before .before .before .before .before .before .before .before .before .before .before .before .before .args in
+    omega (arith, does-below (a .plan) (a .time) (a .count) (a .s) (now (a .words)) (a .names) _ (stands-found (c .before .before .before .before .before .before .before .before .before .before .before .before .before .pre) _ _ (c .before .before .before .before .before .before .before .before .find .ensures)) (c .before .before .before .before .before .before .before .if1 .left) _ (c .before .before .before .before .before .message-at .ensures) _ (c .before .before .before .before .heard .ensures) (c .before .before .before .before .before .before .before .before .before .before .before .before .before .pre), lies-limits (c .before .before .before .before .before .before .before .before .before .before .before .before .before .pre .lies) .3)
+
+quiet-requires : tie.Need-quiet-requires
+quiet-requires c κs = search needs
+
+same-length-5 : tie.Need-same-length-5
+same-length-5 c = search needs
+
+same-length-6 : tie.Need-same-length-6
+same-length-6 c = search needs
+
 returns-3 : tie.Need-returns-3
 returns-3 c =
-    let a = c .before .before .before .before .before .before .before .before .before .before .before .before .before .before .before .before .before .before .before .before .args in
-    let h = c .before .before .before .before .before .before .before .before .before .before .before .before .before .before .before .before .before .before .before .before .pre .0 in
-    let k = c .before .before .before .before .before .before .before .before .before .before .before .before .before .before .before .before .before .before .before .before .pre .1 in
-    let heard = heard-is (a .t1) _ _ _ _ _ (held-settled h) k (table-station (a .t1) (a .names .recipient) k) (c .before .before .before .before .before .before .before .before .before .before .before .heard .ensures) in
-    let many = c .before .before .before .before .before .before .before .before .before .count-sent .ensures in
-    let out = c .before .before .before .before .before .before .take-out .ensures in
-    let place = c .before .before .take-place .ensures in
-    deliver-comes _ _ h _ _ (c .before .before .before .before .before .before .before .before .before .before .before .before .before .before .before .before .before .find .ensures) (c .before .before .before .before .before .before .before .before .before .before .before .before .before .before .before .before .if1 .left) _ (c .before .before .before .before .before .before .before .before .before .before .before .before .before .before .message-at .ensures) _ heard k (omega arith) _ _ (out .0) (out .1) (λ j. c .before .before .before .before .before .before .before .before .before .before .before .before .before .before .before .before .before .before .before .slice-known .given j .fits) _ _ (place .0) (place .1)
+    let a = c .before .before .before .before .before .before .before .before .before .before .before .before .before .before .before .before .before .before .before .before .before .args in
+    let limits = lies-limits (c .before .before .before .before .before .before .before .before .before .before .before .before .before .before .before .before .before .before .before .before .before .pre .lies) in
+    let many = c .before .before .before .before .before .before .before .before .before .before .before .count-sent .ensures in
+    let out = c .before .before .before .before .before .before .before .take-out .ensures in
+    let room = does-room (a .plan) (a .time) (a .count) (a .s) (now (a .words)) (a .names) _ (stands-found (c .before .before .before .before .before .before .before .before .before .before .before .before .before .before .before .before .before .before .before .before .before .pre) _ _ (c .before .before .before .before .before .before .before .before .before .before .before .before .before .before .before .before .find .ensures)) (c .before .before .before .before .before .before .before .before .before .before .before .before .before .before .before .if1 .left) _ (c .before .before .before .before .before .before .before .before .before .before .before .before .before .message-at .ensures) _ (c .before .before .before .before .before .before .before .before .before .before .before .before .heard .ensures) (omega arith) _ _ (out .0) (out .1) (c .before .before .before .before .before .before .before .before .before .before .before .before .before .before .before .before .before .before .before .before .before .pre) in
+    let none = sends-none (a .plan) (a .time .0) (a .names .recipient) (a .s .round + 1) _ _ _ (record { place = limits .0; low = limits .1; fits = limits .2; room = room }) (sym (c .before .quiet .ensures) ∙ c .if3 .taken) in
+    does-comes (a .plan) (a .time) (a .count) (a .s) (now (a .words)) (a .names) _ (stands-found (c .before .before .before .before .before .before .before .before .before .before .before .before .before .before .before .before .before .before .before .before .before .pre) _ _ (c .before .before .before .before .before .before .before .before .before .before .before .before .before .before .before .before .find .ensures)) (c .before .before .before .before .before .before .before .before .before .before .before .before .before .before .before .if1 .left) _ (c .before .before .before .before .before .before .before .before .before .before .before .before .before .message-at .ensures) _ (c .before .before .before .before .before .before .before .before .before .before .before .before .heard .ensures) (omega arith) _ _ (out .0) (out .1) (λ j. c .before .before .before .before .before .before .before .before .before .before .before .before .before .before .before .before .before .before .before .before .slice-known .given j .fits) _ _ (none .0) (none .1)
+
+add-tell-noted : tie.Need-add-tell-noted
+add-tell-noted c = omega (arith, lies-limits (c .before .before .before .before .before .before .before .before .before .before .before .before .before .before .before .before .before .before .before .before .before .before .before .pre .lies) .1)
+
+tell-noted-requires : tie.Need-tell-noted-requires
+tell-noted-requires c κs =
+    let a = c .before .before .before .before .before .before .before .before .before .before .before .before .before .before .before .before .before .before .before .before .before .before .before .before .args in
+    let limits = lies-limits (c .before .before .before .before .before .before .before .before .before .before .before .before .before .before .before .before .before .before .before .before .before .before .before .before .pre .lies) in
+    let many = c .before .before .before .before .before .before .before .before .before .before .before .before .before .before .count-sent .ensures in
+    let out = c .before .before .before .before .before .before .before .before .before .before .take-out .ensures in
+    let room = does-room (a .plan) (a .time) (a .count) (a .s) (now (a .words)) (a .names) _ (stands-found (c .before .before .before .before .before .before .before .before .before .before .before .before .before .before .before .before .before .before .before .before .before .before .before .before .pre) _ _ (c .before .before .before .before .before .before .before .before .before .before .before .before .before .before .before .before .before .before .before .find .ensures)) (c .before .before .before .before .before .before .before .before .before .before .before .before .before .before .before .before .before .before .if1 .left) _ (c .before .before .before .before .before .before .before .before .before .before .before .before .before .before .before .before .message-at .ensures) _ (c .before .before .before .before .before .before .before .before .before .before .before .before .before .before .before .heard .ensures) (omega arith) _ _ (out .0) (out .1) (c .before .before .before .before .before .before .before .before .before .before .before .before .before .before .before .before .before .before .before .before .before .before .before .before .pre) in
+    record { place = limits .0; low = limits .1; fits = limits .2; room = room }
+
+same-length-7 : tie.Need-same-length-7
+same-length-7 c = search needs
+
+same-length-8 : tie.Need-same-length-8
+same-length-8 c = search needs
+
+returns-4 : tie.Need-returns-4
+returns-4 c =
+    let a = c .before .before .before .before .before .before .before .before .before .before .before .before .before .before .before .before .before .before .before .before .before .before .before .before .before .before .before .before .before .args in
+    let many = c .before .before .before .before .before .before .before .before .before .before .before .before .before .before .before .before .before .before .before .count-sent .ensures in
+    let out = c .before .before .before .before .before .before .before .before .before .before .before .before .before .before .before .take-out .ensures in
+    let told = c .before .before .before .before .tell-noted .ensures in
+    does-comes (a .plan) (a .time) (a .count) (a .s) (now (a .words)) (a .names) _ (stands-found (c .before .before .before .before .before .before .before .before .before .before .before .before .before .before .before .before .before .before .before .before .before .before .before .before .before .before .before .before .before .pre) _ _ (c .before .before .before .before .before .before .before .before .before .before .before .before .before .before .before .before .before .before .before .before .before .before .before .before .find .ensures)) (c .before .before .before .before .before .before .before .before .before .before .before .before .before .before .before .before .before .before .before .before .before .before .before .if1 .left) _ (c .before .before .before .before .before .before .before .before .before .before .before .before .before .before .before .before .before .before .before .before .before .message-at .ensures) _ (c .before .before .before .before .before .before .before .before .before .before .before .before .before .before .before .before .before .before .before .before .heard .ensures) (omega arith) _ _ (out .0) (out .1) (λ j. c .before .before .before .before .before .before .before .before .before .before .before .before .before .before .before .before .before .before .before .before .before .before .before .before .before .before .before .before .slice-known .given j .fits) _ _ (told .0) (told .1)
 
 pub deliver-spec : {M : Type 1} → statement M
 deliver-spec =
@@ -93,17 +111,23 @@ deliver-spec =
     (tie.spec
     find-requires
     same-length
+    same-length-2
     returns
     message-at-requires
-    mul-s
-    element-copy-out-s
     heard-requires
     sub-if2
     count-sent-requires
     add-if2
-    same-length-2
+    same-length-3
+    same-length-4
     returns-2
     take-out-requires
-    take-place-requires
-    same-length-3
-    returns-3)
+    quiet-requires
+    same-length-5
+    same-length-6
+    returns-3
+    add-tell-noted
+    tell-noted-requires
+    same-length-7
+    same-length-8
+    returns-4)

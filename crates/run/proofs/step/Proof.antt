@@ -1,9 +1,8 @@
--- `run::step` comes to 11, or to what the event's own function comes to. Assumes nothing.
-use mathlib.Core.Path.{_≡_, sym, _∙_}
+-- `run::step` comes to what is heard at the station that hears, or to 11 or the advance. Assumes nothing.
+use mathlib.Core.Path.{_∙_}
 use native.Mathlib.Omega.{arith}
-use denote.Ref.{now}
-use Rattle.run.specs.Limits.{advance-going, deliver-recipient, send-recipient}
-use Rattle.run.specs.Play.{comes-no, step-barred, step-comes, deliver-any, send-any}
+use Rattle.run.specs.Limits.{held-settled}
+use Rattle.run.specs.Hearing.{noted-all, line-stands, line-heard}
 use borrow.Author.Needs.{needs}
 use Rattle.run.proofs.step.Statement.{statement}
 use Rattle.run.proofs.step.Tie as tie
@@ -11,70 +10,70 @@ use Rattle.run.proofs.step.Tie as tie
 barred-requires : tie.Need-barred-requires
 barred-requires c κs = search needs
 
-returns : tie.Need-returns
-returns c = comes-no _ _ _ _ 11 (step-barred _ _ _ _ (sym (c .before .barred .ensures) ∙ c .if1 .taken)) (λ z. omega arith)
+hearer-requires : tie.Need-hearer-requires
+hearer-requires c κs = search needs
 
-enum-known-event : tie.Need-enum-known-event
-enum-known-event c = search needs
-
-advance-requires : tie.Need-advance-requires
-advance-requires c κs = (c .before .before .before .before .before .before .before .before .pre, advance-going (c .before .before .before .before .before .before .before .before .pre) _ _ (sym (c .before .before .before .before .before .barred .ensures) ∙ c .before .before .before .before .if1 .left) _ (c .before .before .event .given .1))
-
-enum-known-event-2 : tie.Need-enum-known-event-2
-enum-known-event-2 c = search needs
-
-deliver-requires : tie.Need-deliver-requires
-deliver-requires c κs = (c .before .before .before .before .before .before .before .before .pre, deliver-recipient (c .before .before .before .before .before .before .before .before .pre) _ _ (sym (c .before .before .before .before .before .barred .ensures) ∙ c .before .before .before .before .if1 .left) _ _ _ _ (c .before .before .event2 .given .1))
-
-enum-known-event-3 : tie.Need-enum-known-event-3
-enum-known-event-3 c = search needs
-
-send-requires : tie.Need-send-requires
-send-requires c κs = (c .before .before .before .before .before .before .before .before .pre, send-recipient (c .before .before .before .before .before .before .before .before .pre) _ _ (sym (c .before .before .before .before .before .barred .ensures) ∙ c .before .before .before .before .if1 .left) _ _ _ _ (c .before .before .event3 .given .1))
+pass-requires : tie.Need-pass-requires
+pass-requires c κs = (c .before .before .before .before .before .before .pre, (c .before .before .before .barred .ensures, omega (arith, c .before .before .hearer .ensures, c .before .if1 .taken)))
 
 same-length : tie.Need-same-length
 same-length c = search needs
 
-returns-2 : tie.Need-returns-2
-returns-2 c =
-    let e = c .before .before .advance .ensures in
-    step-comes _ _ _ _ _ _ _ (c .before .before .before .before .before .event .given .1) (sym (c .before .before .before .before .before .before .before .before .barred .ensures) ∙ c .before .before .before .before .before .before .before .if1 .left) (e .0) (e .1)
+returns : tie.Need-returns
+returns c = search needs
+
+slice-aggregate-note-signed : tie.Need-slice-aggregate-note-signed
+slice-aggregate-note-signed c = search needs
+
+note-signed-requires : tie.Need-note-signed-requires
+note-signed-requires c κs = let few = held-settled (c .before .before .before .before .before .before .pre) .few in (omega (arith, few), omega (arith, few))
+
+mul-s : tie.Need-mul-s
+mul-s c = omega (arith, held-settled (c .before .before .before .before .before .before .before .before .pre) .few, c .before .before .before .if1 .left)
+
+element-copy-out-s : tie.Need-element-copy-out-s
+element-copy-out-s c = omega (arith, held-settled (c .before .before .before .before .before .before .before .before .pre) .few, c .before .before .before .if1 .left)
+
+slice-aggregate-hear : tie.Need-slice-aggregate-hear
+slice-aggregate-hear c = search needs
+
+slice-aggregate-hear-2 : tie.Need-slice-aggregate-hear-2
+slice-aggregate-hear-2 c = search needs
+
+hear-requires : tie.Need-hear-requires
+hear-requires c κs =
+    (line-stands (c .before .before .before .before .before .before .before .before .before .before .before .before .before .before .pre) _ _ _ (c .before .before .before .before .before .before .before .before .before .before .hearer .ensures) (c .before .before .before .before .before .before .before .before .before .if1 .left), search needs)
+
+seat-requires : tie.Need-seat-requires
+seat-requires c κs = omega (arith, held-settled (c .before .before .before .before .before .before .before .before .before .before .before .before .before .before .before .before .before .before .pre) .few, c .before .before .before .before .before .before .before .before .before .before .before .before .before .if1 .left)
 
 same-length-2 : tie.Need-same-length-2
 same-length-2 c = search needs
 
-returns-3 : tie.Need-returns-3
-returns-3 c =
-    let a = c .before .before .before .before .before .before .before .before .before .before .before .args in
-    let e = c .before .before .deliver .ensures in
-    let any = deliver-any (a .l) (now (a .words)) _ (now (a .increments)) in
-    step-comes _ _ _ _ _ _ _ (c .before .before .before .before .before .event2 .given .1) (sym (c .before .before .before .before .before .before .before .before .barred .ensures) ∙ c .before .before .before .before .before .before .before .if1 .left) (e .0 ∙ any .0) (e .1 ∙ any .1)
-
-same-length-3 : tie.Need-same-length-3
-same-length-3 c = search needs
-
-returns-4 : tie.Need-returns-4
-returns-4 c =
-    let a = c .before .before .before .before .before .before .before .before .before .before .before .args in
-    let e = c .before .before .send .ensures in
-    let any = send-any (a .l) (now (a .words)) _ _ _ _ (now (a .increments)) in
-    step-comes _ _ _ _ _ _ _ (c .before .before .before .before .before .event3 .given .1) (sym (c .before .before .before .before .before .before .before .before .barred .ensures) ∙ c .before .before .before .before .before .before .before .if1 .left) (e .0 ∙ any .0) (e .1 ∙ any .1)
+returns-2 : tie.Need-returns-2
+returns-2 c =
+    let a = c .before .before .before .before .before .before .before .before .before .before .before .before .before .before .before .before .before .before .before .args in
+    let few = held-settled (c .before .before .before .before .before .before .before .before .before .before .before .before .before .before .before .before .before .before .before .pre) .few in
+    let noted = noted-all (a .t1) _ (omega (arith, few)) (c .before .before .before .before .before .before .before .before .before .before .before .before .note-signed .ensures) in
+    let heard = line-heard (c .before .before .before .before .before .before .before .before .before .before .before .before .before .before .before .before .before .before .before .pre) _ _ _ (c .before .before .before .before .before .before .before .before .before .before .before .before .before .before .before .hearer .ensures) (c .before .before .before .before .before .before .before .before .before .before .before .before .before .before .if1 .left) _ (c .before .before .before .before .before .before .before .before .before .before .before .before .before .before .before .before .barred .ensures) _ noted _ _ (c .before .before .before .before .hear .ensures) in
+    (c .seat .ensures ∙ heard .0, heard .1)
 
 pub step-spec : {M : Type 1} → statement M
 step-spec =
     tie.close
     (tie.spec
     barred-requires
-    returns
-    enum-known-event
-    advance-requires
-    enum-known-event-2
-    deliver-requires
-    enum-known-event-3
-    send-requires
+    hearer-requires
+    pass-requires
     same-length
-    returns-2
+    returns
+    slice-aggregate-note-signed
+    note-signed-requires
+    mul-s
+    element-copy-out-s
+    slice-aggregate-hear
+    slice-aggregate-hear-2
+    hear-requires
+    seat-requires
     same-length-2
-    returns-3
-    same-length-3
-    returns-4)
+    returns-2)

@@ -1,16 +1,19 @@
 -- `run::tell` sends a ready and a relay, each to a mask: after both the words hold what the station sends behind the others.
 -- Assumes nothing.
-use mathlib.Core.Path.{_∙_}
+use mathlib.Core.Path.{sym, _∙_}
 use denote.Ref.{now}
 use Rattle.run.specs.Sends.{sends-none, both-sends}
 use borrow.Author.Needs.{needs}
 use Rattle.run.proofs.tell.Statement.{statement}
 use Rattle.run.proofs.tell.Tie as tie
 
+quiet-requires : tie.Need-quiet-requires
+quiet-requires c κs = search needs
+
 returns : tie.Need-returns
 returns c =
-    let a = c .before .before .before .before .args in
-    sends-none (a .plan) (a .time .0) (a .i) (a .round) (a .o) (now (a .words)) (a .count) (c .before .before .before .before .pre) (c .if1 .taken)
+    let a = c .before .before .before .args in
+    sends-none (a .plan) (a .time .0) (a .i) (a .round) (a .o) (now (a .words)) (a .count) (c .before .before .before .pre) (sym (c .before .quiet .ensures) ∙ c .if1 .taken)
 
 others-requires : tie.Need-others-requires
 others-requires c κs = search needs
@@ -35,10 +38,10 @@ same-length c = search needs
 
 returns-2 : tie.Need-returns-2
 returns-2 c =
-    let a = c .before .before .before .before .before .before .before .before .before .before .before .before .before .before .before .before .before .args in
+    let a = c .before .before .before .before .before .before .before .before .before .before .before .before .before .before .before .before .args in
     let to = c .before .before .before .before .before .before .before .before .before .before .before .before .others .ensures in
-    both-sends (a .plan) (a .time .0) (a .i) (a .round) (a .o) (now (a .words)) (a .count) (c .before .before .before .before .before .before .before .before .before .before .before .before .before .before .before .before .before .pre)
-    (λ j. c .before .before .before .before .before .before .before .before .before .before .before .before .before .before .before .before .slice-known .given j .fits) (search needs) _ _ _ _ _ _ _
+    both-sends (a .plan) (a .time .0) (a .i) (a .round) (a .o) (now (a .words)) (a .count) (c .before .before .before .before .before .before .before .before .before .before .before .before .before .before .before .before .pre)
+    (λ j. c .before .before .before .before .before .before .before .before .before .before .before .before .before .before .before .slice-known .given j .fits) (search needs) _ _ _ _ _ _ _
     (c .before .before .before .before .before .before .before .before .before .part .ensures ∙ rw to) (c .before .before .before .part2 .ensures ∙ rw to) (c .before .before .before .before .before .before .before .before .send .ensures .0) (c .before .before .before .before .before .before .before .before .send .ensures .1)
     (c .before .before .send2 .ensures .0) (c .before .before .send2 .ensures .1) (rw (c .before .before .before .before .before .before .before .before .before .before .before .only .ensures))
 
@@ -46,6 +49,7 @@ pub tell-spec : {M : Type 1} → statement M
 tell-spec =
     tie.close
     (tie.spec
+    quiet-requires
     returns
     others-requires
     only-requires

@@ -1,102 +1,104 @@
--- `text::put_decimal` spells a number from its last digit on: each turn lays one more digit in front. The measure is how many
--- are left. Assumes nothing.
-use Prim.Native.Nat.{ℕ, _+_}
-use mathlib.Core.Path.{_≡_, ap, sym, _∙_}
+-- `text::put_decimal` lays one digit, two, or two and two, and leaves the rest to `put_long`. Assumes nothing.
+use Prim.Native.Nat.{ℕ, _+_, _/_, _%_}
+use mathlib.Core.Path.{ap, sym, _∙_}
 use native.Mathlib.Omega.{arith}
 use borrow.Author.Needs.{needs}
 use Rattle.number.specs.Number.{laid}
-use Rattle.text.specs.Text.{places}
-use Rattle.text.specs.Laws.{laid-one, one-digit, places-few, Spelt, spelt-start, spelt-next, spelt-end}
+use Rattle.text.specs.Text.{lastDigits}
+use Rattle.text.specs.Laws.{laid-one, laid-both, length-digits, one-digit, two-digits, four-digits}
 use Rattle.text.proofs.put_decimal.Statement.{statement}
 use Rattle.text.proofs.put_decimal.Tie as tie
 
-abbrev Inv-loop : tie.InvT-loop
-Inv-loop x out₀ at count rest₀ left₀ out rest left = (count ≡ places x) × Spelt x out₀ at count out rest left
-
-abbrev μ-loop : tie.MeasureT-loop
-μ-loop x out₀ at count rest₀ left₀ out rest left = left
-
-cast-out : tie.Need-cast-out Inv-loop μ-loop
+cast-out : tie.Need-cast-out
 cast-out c = omega arith
 
-add-out : tie.Need-add-out Inv-loop μ-loop
+add-out : tie.Need-add-out
 add-out c = omega arith
 
-slice-write-out : tie.Need-slice-write-out Inv-loop μ-loop
+slice-write-out : tie.Need-slice-write-out
 slice-write-out c = omega (arith, c .before .before .pre)
 
-add-result : tie.Need-add-result Inv-loop μ-loop
+add-result : tie.Need-add-result
 add-result c = omega (arith, c .before .before .pre)
 
-same-length : tie.Need-same-length Inv-loop μ-loop
+same-length : tie.Need-same-length
 same-length c = search needs
 
-returns : tie.Need-returns Inv-loop μ-loop
+returns : tie.Need-returns
 returns c =
     let one = one-digit (c .before .before .args .x) (c .if1 .taken) in
     (ap (λ (k : ℕ). c .before .before .args .at + k) (sym (one .0)), laid-one _ _ _ (omega (arith, c .before .before .pre)) ∙ ap (laid _ _) (sym (one .1)))
 
-places-requires : tie.Need-places-requires Inv-loop μ-loop
-places-requires c κs = tt
+put-two-requires : tie.Need-put-two-requires
+put-two-requires c κs = (c .before .if2 .taken, omega (arith, c .before .before .before .before .pre))
 
-loop-holds : tie.Need-loop-holds Inv-loop μ-loop
-loop-holds c = (c .places .ensures, spelt-start _ _ _ _)
+same-length-2 : tie.Need-same-length-2
+same-length-2 c = search needs
 
-sub-left : tie.Need-sub-left Inv-loop μ-loop
-sub-left c = omega arith
-
-cast-out-2 : tie.Need-cast-out-2 Inv-loop μ-loop
-cast-out-2 c = omega arith
-
-add-out-2 : tie.Need-add-out-2 Inv-loop μ-loop
-add-out-2 c = omega arith
-
-add-out-3 : tie.Need-add-out-3 Inv-loop μ-loop
-add-out-3 c = omega (arith, c .before .loop .inv .0, c .before .loop .inv .1 .most, places-few (c .before .before .before .before .before .args .x), c .before .before .before .before .before .pre)
-
-slice-write-out-2 : tie.Need-slice-write-out-2 Inv-loop μ-loop
-slice-write-out-2 c = omega (arith, c .before .loop .inv .0, c .before .loop .inv .1 .most, c .before .loop .inv .1 .long, places-few (c .before .before .before .before .before .args .x), c .before .before .before .before .before .pre)
-
-loop-less : tie.Need-loop-less Inv-loop μ-loop
-loop-less c = omega arith
-
-loop-again : tie.Need-loop-again Inv-loop μ-loop
-loop-again c =
-    let s = c .before .loop .inv in
-    (s .0, spelt-next _ _ _ _ _ _ _ (omega (arith, s .0, places-few (c .before .before .before .before .before .args .x), c .before .before .before .before .before .pre)) (c .loop-test .taken) (s .1))
-
-add-result-2 : tie.Need-add-result-2 Inv-loop μ-loop
-add-result-2 c = omega (arith, c .before .loop .inv .0, places-few (c .before .before .before .before .before .args .x), c .before .before .before .before .before .pre)
-
-same-length-2 : tie.Need-same-length-2 Inv-loop μ-loop
-same-length-2 c = c .before .loop .inv .1 .long
-
-returns-2 : tie.Need-returns-2 Inv-loop μ-loop
+returns-2 : tie.Need-returns-2
 returns-2 c =
-    let s = c .before .loop .inv in
-    (ap (λ (k : ℕ). c .before .before .before .before .before .args .at + k) (s .0), spelt-end (s .0) (c .loop-test .left) (s .1))
+    let a = c .before .before .before .before .before .before .before .args in
+    let e = c .before .before .put-two .ensures in
+    let two = two-digits (a .x) (c .before .before .before .before .before .if1 .left) (c .before .before .before .before .if2 .taken) in
+    (omega (arith, e .0, two .0), e .1 ∙ ap (laid _ _) (sym (two .1)))
+
+put-long-requires : tie.Need-put-long-requires
+put-long-requires c κs = search needs
+
+same-length-3 : tie.Need-same-length-3
+same-length-3 c = search needs
+
+returns-3 : tie.Need-returns-3
+returns-3 c = c .before .before .put-long .ensures
+
+put-two-requires-2 : tie.Need-put-two-requires-2
+put-two-requires-2 c κs = (omega (arith, c .before .if4 .taken), omega (arith, c .before .before .before .before .before .before .pre))
+
+put-two-requires-3 : tie.Need-put-two-requires-3
+put-two-requires-3 c κs = (omega arith, search needs)
+
+same-length-4 : tie.Need-same-length-4
+same-length-4 c = search needs
+
+returns-4 : tie.Need-returns-4
+returns-4 c =
+    let a = c .before .before .before .before .before .before .before .before .before .before .before .before .before .args in
+    let one = c .before .before .before .before .before .before .put-two2 .ensures in
+    let two = c .before .before .put-two3 .ensures in
+    let len = length-digits 2 (a .x / 100) in
+    let four = four-digits (a .x) (c .before .before .before .before .before .before .before .before .before .if3 .left) (c .before .before .before .before .before .before .before .before .if4 .taken) in
+    let both = laid-both _ _ (lastDigits 2 (a .x / 100)) (lastDigits 2 (a .x % 100)) (omega (arith, len, c .before .before .before .before .before .before .before .before .before .before .before .before .before .pre)) (one .1) (one .0 ∙ omega (arith, len)) (two .1) in
+    (omega (arith, one .0, two .0, four .0), both ∙ ap (laid _ _) (sym (four .1)))
+
+put-long-requires-2 : tie.Need-put-long-requires-2
+put-long-requires-2 c κs = search needs
+
+same-length-5 : tie.Need-same-length-5
+same-length-5 c = search needs
+
+returns-5 : tie.Need-returns-5
+returns-5 c = c .before .before .put-long2 .ensures
 
 pub put-decimal-spec : {M : Type 1} → statement M
 put-decimal-spec =
     tie.close
     (tie.spec
-    Inv-loop
-    μ-loop
     cast-out
     add-out
     slice-write-out
     add-result
     same-length
     returns
-    places-requires
-    loop-holds
-    sub-left
-    cast-out-2
-    add-out-2
-    add-out-3
-    slice-write-out-2
-    loop-less
-    loop-again
-    add-result-2
+    put-two-requires
     same-length-2
-    returns-2)
+    returns-2
+    put-long-requires
+    same-length-3
+    returns-3
+    put-two-requires-2
+    put-two-requires-3
+    same-length-4
+    returns-4
+    put-long-requires-2
+    same-length-5
+    returns-5)
