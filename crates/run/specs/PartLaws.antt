@@ -21,6 +21,7 @@ use Rattle.number.specs.Laws.{length-laid}
 use Rattle.script.specs.declared.read.SetupRead.{SetupRead}
 use Rattle.script.specs.declared.read.EventRead.{EventRead}
 use Rattle.script.specs.Read.{readSetup, asSetup, readEvent, asEvent}
+use Rattle.script.specs.ReadLaws.{increments-long}
 use Rattle.station.specs.declared.Station.{Station}
 use Rattle.line.specs.declared.Line.{Line}
 use Rattle.line.specs.Run.{Run, noStation, stationAt}
@@ -282,11 +283,7 @@ pub record Beside (n : ℕ) (l : Line) (signed end : List ℕ) (long : ℕ) : Ty
 pub record Ready (l : Line) (words signed end : List ℕ) (long : ℕ) : Type 0 where
   pub good : badLine l words ≡ false
   pub twelve : length (l .stations) ≡ 12
-  pub noted : Noted l signed
-  pub rounds : length signed ≡ 12
-  pub room : length end ≡ 320
-  pub fits : long ≤ 320
-  pub ends : take long end ≡ eventEnd (runOf l [])
+  pub beside : Beside (l .plan .stations) l signed end long
 
 -- an end anew and an event's line with it
 pub record Shows (l : Line) (number answer : ℕ) (end out : List ℕ) (at long place : ℕ) (made written : List ℕ) : Type 0 where
@@ -339,12 +336,12 @@ pub ready-new : (l : Line) (words signed signed₀ end made : List ℕ) (long : 
     → length signed₀ ≡ 12 → signed ≡ signedTo l signed₀ (l .plan .stations) → length end ≡ 320
     → long ≡ behind (fits l end 0) 0 (eventEnd (runOf l [])) → made ≡ printed (fits l end 0) end 0 (eventEnd (runOf l []))
     → Ready l words signed made long
-ready-new l words signed signed₀ end made long good twelve rounds es room el em =
-    let b = beside-new (l .plan .stations) l signed signed₀ end made long refl (held-settled (held-is l words good) .few) rounds es room el em in
-    record { good = good; twelve = twelve; noted = b .noted; rounds = b .twelve; room = b .room; fits = b .fits; ends = b .ends }
-
-pub ready-beside : {l : Line} {words signed end : List ℕ} {long : ℕ} → Ready l words signed end long → Beside (l .plan .stations) l signed end long
-ready-beside r = record { stations = refl; noted = r .noted; twelve = r .rounds; room = r .room; fits = r .fits; ends = r .ends }
+ready-new l words signed signed₀ end made long good twelve rounds es room el em = record {
+  good = good;
+  twelve = twelve;
+  beside =
+      beside-new (l .plan .stations) l signed signed₀ end made long refl (held-settled (held-is l words good) .few) rounds es room el em;
+}
 
 -- at the start
 pub ready-onward : {l : Line} {words signed end : List ℕ} {long : ℕ} → Ready l words signed end long
@@ -428,6 +425,11 @@ module _ (bytes : List ℕ) (start here : Standing) (o : Onward bytes start here
 
   pub turn-few : n ≤ 12
   turn-few = omega (arith, b .stations, line-few)
+
+  -- the script gives as many increments as there are stations
+  pub turn-increments : (read : EventRead) → read ≡ asEvent bytes (readEvent n bytes (here .next)) → n ≤ length (read .increments)
+  turn-increments read e =
+      omega (arith, ap (λ (x : EventRead). length (x .increments)) e, increments-long bytes (readEvent n bytes (here .next)), turn-few)
 
   pub turn-read : (read : EventRead) → read ≡ asEvent bytes (readEvent n bytes (here .next)) → read ≡ readAt bytes here
   turn-read read e = e ∙ ap (λ (k : ℕ). asEvent bytes (readEvent k bytes (here .next))) (b .stations)

@@ -8,13 +8,10 @@ use denote.Ref.{now}
 use lib.ListN.{length}
 use lib.Seq.{length-take-le}
 use Rattle.clock.specs.Limits.{maxScript}
-use Rattle.script.specs.declared.read.EventRead.{EventRead}
-use Rattle.script.specs.Read.{readEvent}
-use Rattle.script.specs.ReadLaws.{increments-long}
 use Rattle.run.specs.Limits.{held-settled}
 use Rattle.run.specs.Hearing.{line-stands}
 use Rattle.run.specs.Part.{standing}
-use Rattle.run.specs.PartLaws.{Onward, Beside, goes-number, ready-onward, ready-beside, onward-read, onward-ends, part-from, turn-held, turn-few, turn-read, turn-barred, turn-hearer, turn-nobody, turn-plan, turn-passes, turn-starts, turn-stays}
+use Rattle.run.specs.PartLaws.{Onward, Beside, goes-number, ready-onward, onward-read, onward-ends, part-from, turn-held, turn-few, turn-increments, turn-read, turn-barred, turn-hearer, turn-nobody, turn-plan, turn-passes, turn-starts, turn-stays}
 use borrow.Author.Needs.{needs}
 use Rattle.run.proofs.parts.play_on.Statement.{statement}
 use Rattle.run.proofs.parts.play_on.Tie as tie
@@ -31,7 +28,7 @@ abbrev μ-loop : tie.MeasureT-loop
 loop-holds : tie.Need-loop-holds Inv-loop μ-loop
 loop-holds c =
     let a = c .before .before .before .before .before .before .args in
-    (ready-onward (c .before .before .before .before .before .before .pre) (now (a .bytes)) (a .at) (a .played) (now (a .out)) (a .from), ready-beside (c .before .before .before .before .before .before .pre), refl)
+    (ready-onward (c .before .before .before .before .before .before .pre) (now (a .bytes)) (a .at) (a .played) (now (a .out)) (a .from), c .before .before .before .before .before .before .pre .beside, refl)
 
 goes-on-requires : tie.Need-goes-on-requires Inv-loop μ-loop
 goes-on-requires c κs = tt
@@ -49,13 +46,13 @@ same-length-2 : tie.Need-same-length-2 Inv-loop μ-loop
 same-length-2 c = c .before .out .given ∙ c .before .before .before .before .before .before .before .before .before .before .loop .inv .0 .out
 
 same-length-3 : tie.Need-same-length-3 Inv-loop μ-loop
-same-length-3 c = c .before .before .before .before .before .before .before .before .before .before .loop .inv .1 .twelve ∙ sym (c .before .before .before .before .before .before .before .before .before .before .before .before .before .before .before .before .before .pre .rounds)
+same-length-3 c = c .before .before .before .before .before .before .before .before .before .before .loop .inv .1 .twelve ∙ sym (c .before .before .before .before .before .before .before .before .before .before .before .before .before .before .before .before .before .pre .beside .twelve)
 
 same-length-4 : tie.Need-same-length-4 Inv-loop μ-loop
 same-length-4 c = c .before .before .before .before .before .before .before .before .before .before .loop .inv .2
 
 same-length-5 : tie.Need-same-length-5 Inv-loop μ-loop
-same-length-5 c = c .before .before .before .before .before .before .before .before .before .before .loop .inv .1 .room ∙ sym (c .before .before .before .before .before .before .before .before .before .before .before .before .before .before .before .before .before .pre .room)
+same-length-5 c = c .before .before .before .before .before .before .before .before .before .before .loop .inv .1 .room ∙ sym (c .before .before .before .before .before .before .before .before .before .before .before .before .before .before .before .before .before .pre .beside .room)
 
 returns : tie.Need-returns Inv-loop μ-loop
 returns c =
@@ -66,20 +63,10 @@ returns c =
     part-from _ _ _ (onward-read _ _ _ (inv .0) g (read .result) (turn-read _ _ _ (inv .0) (inv .1) (read .result) (read .ensures)) (c .before .before .before .before .if2 .taken) _ _ (line .0) (line .1))
 
 array-share-prefix-increments : tie.Need-array-share-prefix-increments Inv-loop μ-loop
-array-share-prefix-increments c =
-    let a = c .before .before .before .before .before .before .before .before .before .before .before .before .before .before .args in
-    let here = c .before .before .before .before .before .before .before .loop in
-    let long = ap (λ (x : EventRead). length (x .increments)) (c .before .before .before .read-event .ensures) in
-    let most = increments-long (now (a .bytes)) (readEvent (a .l .plan .stations) (now (a .bytes)) (here .next)) in
-    omega (arith, long, most, turn-few _ _ _ (here .inv .0) (here .inv .1))
+array-share-prefix-increments c = turn-increments _ _ _ (c .before .before .before .before .before .before .before .loop .inv .0) (c .before .before .before .before .before .before .before .loop .inv .1) (c .before .before .before .read-event .result) (c .before .before .before .read-event .ensures)
 
 slice-aggregate-barred : tie.Need-slice-aggregate-barred Inv-loop μ-loop
-slice-aggregate-barred c =
-    let a = c .before .before .before .before .before .before .before .before .before .before .before .before .before .before .before .args in
-    let here = c .before .before .before .before .before .before .before .before .loop in
-    let long = ap (λ (x : EventRead). length (x .increments)) (c .before .before .before .before .read-event .ensures) in
-    let most = increments-long (now (a .bytes)) (readEvent (a .l .plan .stations) (now (a .bytes)) (here .next)) in
-    sym (length-take-le _ _ (omega (arith, long, most, turn-few _ _ _ (here .inv .0) (here .inv .1))))
+slice-aggregate-barred c = sym (length-take-le _ _ (turn-increments _ _ _ (c .before .before .before .before .before .before .before .before .loop .inv .0) (c .before .before .before .before .before .before .before .before .loop .inv .1) (c .before .before .before .before .read-event .result) (c .before .before .before .before .read-event .ensures)))
 
 barred-requires : tie.Need-barred-requires Inv-loop μ-loop
 barred-requires c κs = tt
@@ -91,20 +78,10 @@ add-number : tie.Need-add-number Inv-loop μ-loop
 add-number c = omega (arith, goes-number _ _ _ _ _ (sym (c .before .before .before .before .before .before .before .before .goes-on .ensures) ∙ c .before .before .before .before .before .before .before .if1 .taken) .0)
 
 array-share-prefix-increments-2 : tie.Need-array-share-prefix-increments-2 Inv-loop μ-loop
-array-share-prefix-increments-2 c =
-    let a = c .before .before .before .before .before .before .before .before .before .before .before .before .before .before .before .before .before .before .before .args in
-    let here = c .before .before .before .before .before .before .before .before .before .before .before .before .loop in
-    let long = ap (λ (x : EventRead). length (x .increments)) (c .before .before .before .before .before .before .before .before .read-event .ensures) in
-    let most = increments-long (now (a .bytes)) (readEvent (a .l .plan .stations) (now (a .bytes)) (here .next)) in
-    omega (arith, long, most, turn-few _ _ _ (here .inv .0) (here .inv .1))
+array-share-prefix-increments-2 c = turn-increments _ _ _ (c .before .before .before .before .before .before .before .before .before .before .before .before .loop .inv .0) (c .before .before .before .before .before .before .before .before .before .before .before .before .loop .inv .1) (c .before .before .before .before .before .before .before .before .read-event .result) (c .before .before .before .before .before .before .before .before .read-event .ensures)
 
 slice-aggregate-pass : tie.Need-slice-aggregate-pass Inv-loop μ-loop
-slice-aggregate-pass c =
-    let a = c .before .before .before .before .before .before .before .before .before .before .before .before .before .before .before .before .before .before .before .before .args in
-    let here = c .before .before .before .before .before .before .before .before .before .before .before .before .before .loop in
-    let long = ap (λ (x : EventRead). length (x .increments)) (c .before .before .before .before .before .before .before .before .before .read-event .ensures) in
-    let most = increments-long (now (a .bytes)) (readEvent (a .l .plan .stations) (now (a .bytes)) (here .next)) in
-    sym (length-take-le _ _ (omega (arith, long, most, turn-few _ _ _ (here .inv .0) (here .inv .1))))
+slice-aggregate-pass c = sym (length-take-le _ _ (turn-increments _ _ _ (c .before .before .before .before .before .before .before .before .before .before .before .before .before .loop .inv .0) (c .before .before .before .before .before .before .before .before .before .before .before .before .before .loop .inv .1) (c .before .before .before .before .before .before .before .before .before .read-event .result) (c .before .before .before .before .before .before .before .before .before .read-event .ensures)))
 
 pass-requires : tie.Need-pass-requires Inv-loop μ-loop
 pass-requires c κs =
@@ -208,13 +185,13 @@ same-length-7 : tie.Need-same-length-7 Inv-loop μ-loop
 same-length-7 c = c .before .before .before .loop .inv .0 .out
 
 same-length-8 : tie.Need-same-length-8 Inv-loop μ-loop
-same-length-8 c = c .before .before .before .loop .inv .1 .twelve ∙ sym (c .before .before .before .before .before .before .before .before .before .before .pre .rounds)
+same-length-8 c = c .before .before .before .loop .inv .1 .twelve ∙ sym (c .before .before .before .before .before .before .before .before .before .before .pre .beside .twelve)
 
 same-length-9 : tie.Need-same-length-9 Inv-loop μ-loop
 same-length-9 c = c .before .before .before .loop .inv .2
 
 same-length-10 : tie.Need-same-length-10 Inv-loop μ-loop
-same-length-10 c = c .before .before .before .loop .inv .1 .room ∙ sym (c .before .before .before .before .before .before .before .before .before .before .pre .room)
+same-length-10 c = c .before .before .before .loop .inv .1 .room ∙ sym (c .before .before .before .before .before .before .before .before .before .before .pre .beside .room)
 
 returns-2 : tie.Need-returns-2 Inv-loop μ-loop
 returns-2 c = part-from _ _ _ (onward-ends _ _ _ (c .before .before .before .loop .inv .0) (sym (c .before .goes-on .ensures) ∙ c .if1 .left))
