@@ -7,6 +7,7 @@ use lib.ListN.{length}
 use Rattle.clock.specs.Limits.{maxAdvance, maxIncrement, maxRound}
 use Rattle.mask.specs.Mask.{has, below}
 use Rattle.clock.specs.Tests.{outside, someTo}
+use Rattle.clock.specs.Pick.{pick}
 use Rattle.event.specs.declared.Event.{Event}
 use Rattle.event.specs.declared.Event.the-variants.{Advance, Deliver, Send}
 
@@ -24,10 +25,21 @@ unfoldable pub badEnds : ℕ → ℕ → ℕ → ℕ → ℕ → Bool
 badEnds n faulty sender recipient round =
     leb n sender || leb n recipient || eqb sender recipient || has faulty recipient || outside 1 maxRound round
 
--- kind above 1; empty mask or one with a bit at n or above
+-- and a message's kind above 1
+abbrev pub badDeliver : ℕ → ℕ → ℕ → ℕ → ℕ → ℕ → Bool
+badDeliver n faulty sender recipient round kind = badEnds n faulty sender recipient round || ltb 1 kind
+
+-- and an empty mask or one with a bit at n or above
+abbrev pub badSend : ℕ → ℕ → ℕ → ℕ → ℕ → ℕ → Bool
+badSend n faulty sender recipient round signers = badEnds n faulty sender recipient round || eqb signers 0 || not (below signers n)
+
 unfoldable pub barred : ℕ → ℕ → Event → List ℕ → Bool
 barred n faulty (Advance d) increments = badAdvance n faulty d increments
-barred n faulty (Deliver sender recipient round kind) increments =
-    badEnds n faulty sender recipient round || ltb 1 kind
-barred n faulty (Send sender recipient round signers) increments =
-    badEnds n faulty sender recipient round || eqb signers 0 || not (below signers n)
+barred n faulty (Deliver sender recipient round kind) increments = badDeliver n faulty sender recipient round kind
+barred n faulty (Send sender recipient round signers) increments = badSend n faulty sender recipient round signers
+
+-- the station that hears an event: a message's recipient; n, which is none, for an advance and where 11 bars the message
+unfoldable pub hearer : ℕ → ℕ → Event → ℕ
+hearer n faulty (Advance d) = n
+hearer n faulty (Deliver sender recipient round kind) = pick (badDeliver n faulty sender recipient round kind) n recipient
+hearer n faulty (Send sender recipient round signers) = pick (badSend n faulty sender recipient round signers) n recipient

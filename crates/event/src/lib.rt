@@ -1,5 +1,6 @@
 // The three events of a run, and rule 11: which events are barred whatever the run's state is.
 ghost use mathlib.Core.Path.{_≡_};
+ghost use Rattle.clock.specs.Pick.{pick};
 ghost use lib.ListN.{length};
 ghost use Rattle.clock.specs.Tests.{someTo};
 ghost use Rattle.event.specs.Event as rule;
@@ -64,6 +65,36 @@ fn bad_ends(stations: u64, faulty: u64, sender: u64, recipient: u64, round: u64)
         | clock::outside(1, clock::MAX_ROUND, round)
 }
 
+// Whether a deliver is barred.
+fn bad_deliver(
+    stations: u64,
+    faulty: u64,
+    sender: u64,
+    recipient: u64,
+    round: u64,
+    kind: u64,
+) -> bool
+    ensures { λ r. ⌜ r ≡ rule.badDeliver stations faulty sender recipient round kind ⌝ }
+{
+    bad_ends(stations, faulty, sender, recipient, round) | (1 < kind)
+}
+
+// Whether a faulty send is barred.
+fn bad_send(
+    stations: u64,
+    faulty: u64,
+    sender: u64,
+    recipient: u64,
+    round: u64,
+    signers: u64,
+) -> bool
+    ensures { λ r. ⌜ r ≡ rule.badSend stations faulty sender recipient round signers ⌝ }
+{
+    bad_ends(stations, faulty, sender, recipient, round)
+        | (signers == 0)
+        | !mask::below(signers, stations)
+}
+
 // Whether rule 11 bars an event of a line of so many stations with these faulty ones.
 pub fn barred(stations: u64, faulty: u64, event: Event, increments: &[u64]) -> bool
     ensures { λ r. ⌜ r ≡ rule.barred stations faulty event (now (increments .entry)) ⌝ }
@@ -75,16 +106,47 @@ pub fn barred(stations: u64, faulty: u64, event: Event, increments: &[u64]) -> b
             recipient,
             round,
             kind,
-        } => { bad_ends(stations, faulty, sender, recipient, round) | (1 < kind) }
+        } => bad_deliver(stations, faulty, sender, recipient, round, kind),
+        Event::Send {
+            sender,
+            recipient,
+            round,
+            signers,
+        } => bad_send(stations, faulty, sender, recipient, round, signers),
+    }
+}
+
+// A station, or n where its message is barred.
+fn unless(barred: bool, stations: u64, i: u64) -> u64
+    ensures { λ r. ⌜ r ≡ pick barred stations i ⌝ }
+{
+    if barred { stations } else { i }
+}
+
+// The station that hears an event: the recipient of a message that 11 does not bar. There is none for an advance or a barred
+// message: n.
+pub fn hearer(stations: u64, faulty: u64, event: Event) -> u64
+    ensures { λ r. ⌜ r ≡ rule.hearer stations faulty event ⌝ }
+{
+    match event {
+        Event::Advance(_) => stations,
+        Event::Deliver {
+            sender,
+            recipient,
+            round,
+            kind,
+        } => {
+            let barred = bad_deliver(stations, faulty, sender, recipient, round, kind);
+            unless(barred, stations, recipient)
+        }
         Event::Send {
             sender,
             recipient,
             round,
             signers,
         } => {
-            bad_ends(stations, faulty, sender, recipient, round)
-                | (signers == 0)
-                | !mask::below(signers, stations)
+            let barred = bad_send(stations, faulty, sender, recipient, round, signers);
+            unless(barred, stations, recipient)
         }
     }
 }

@@ -69,18 +69,21 @@ fn read_long(bytes: &[u8], at: usize) -> Number
     tenth(bytes, place, weight, sum)
 }
 
-// The number at a place of the bytes: read whole, or the reading stops. Most numbers of a script are one byte.
+// The number at a place of the bytes: read whole, or the reading stops. Most numbers of a script are one byte; the
+// slice is copied where it is handed on for another, so that these need no address of it.
 pub fn read_number(bytes: &[u8], at: usize) -> Number
     ensures { λ r. ⌜ r ≡ form.readNumber (now (bytes .entry)) at ⌝ }
 {
     if bytes.len() <= at {
-        return read_long(bytes, at);
+        let all = bytes;
+        return read_long(all, at);
     }
     let byte = bytes[at] as u64;
     if byte < 128 {
         return Number::Value(byte, at + 1);
     }
-    read_long(bytes, at)
+    let all = bytes;
+    read_long(all, at)
 }
 
 // The bytes of a number, in a scratch array: the first `count` of them.

@@ -30,7 +30,7 @@ use Rattle.flight.specs.Coding.{length-decode, length-coded, decode-at, laid-st
 use Rattle.flight.specs.Keys.{take-allowed}
 use Rattle.event.specs.declared.Event.{Event}
 use Rattle.event.specs.declared.Event.the-variants.{Advance, Deliver, Send}
-use Rattle.event.specs.Event.{barred}
+use Rattle.event.specs.Event.{badDeliver, badSend, barred, hearer}
 use Rattle.line.specs.declared.Line.{Line}
 use Rattle.line.specs.Run.{Run, sound, noStation, stationAt, sends, become, hearAt}
 use Rattle.line.specs.Record.{someStation}
@@ -121,14 +121,11 @@ unfoldable pub signedTo : Line → List ℕ → ℕ → List ℕ
 signedTo l signed zero = signed
 signedTo l signed (suc k) = set (signedTo l signed k) k (stationAt (runOf l []) k .signed)
 
--- the station that hears an event; n where none does: an advance, or one that 11 bars
+-- the recipient of a message; n for an advance
 unfoldable pub recipientOr : ℕ → Event → ℕ
 recipientOr n (Advance d) = n
 recipientOr n (Deliver sender recipient round kind) = recipient
 recipientOr n (Send sender recipient round signers) = recipient
-
-unfoldable pub hearer : ℕ → Bool → Event → ℕ
-hearer n barred e = pick barred n (recipientOr n e)
 
 -- what the code makes of a station that hears
 pub heard-is : (l : Line) (i round signers : ℕ) (s : Station) (o : Outcome) → Settled l → i < l .plan .stations → s ≡ stationAt (runOf l []) i
@@ -540,14 +537,23 @@ module _ (plan : Plan) (time : Moment) (count : ℕ) (s : Station) (signed words
 
 -- ---- an event and the station that hears it
 
--- as the code finds it
-pub hearer-none : (n : ℕ) (b : Bool) (e : Event) → b ≡ true → n ≡ hearer n b e
-unfolding hearer
-hearer-none n b e q = rw q refl
+-- where 11 does not bar it, it is the recipient
+hears : (n faulty : ℕ) (e : Event) (increments : List ℕ) → barred n faulty e increments ≡ false → hearer n faulty e ≡ recipientOr n e
+unfolding hearer barred recipientOr
+hears n faulty (Advance d) increments z = refl
+hears n faulty (Deliver sender recipient round kind) increments z = rw z refl
+hears n faulty (Send sender recipient round signers) increments z = rw z refl
 
-pub hearer-one : (n : ℕ) (b : Bool) (e f : Event) (r : ℕ) → b ≡ false → e ≡ f → r ≡ recipientOr n f → r ≡ hearer n b e
-unfolding hearer
-hearer-one n b e f r q g h = h ∙ rw (q, g) refl
+-- and an event that is heard is not barred
+picked : (n i : ℕ) (b : Bool) → pick b n i < n → b ≡ false
+picked n i true k = absurd (omega arith)
+picked n i false k = refl
+
+heard-not : (n faulty : ℕ) (e : Event) (increments : List ℕ) → hearer n faulty e < n → barred n faulty e increments ≡ false
+unfolding hearer barred
+heard-not n faulty (Advance d) increments k = absurd (omega arith)
+heard-not n faulty (Deliver sender recipient round kind) increments k = picked n recipient (badDeliver n faulty sender recipient round kind) k
+heard-not n faulty (Send sender recipient round signers) increments k = picked n recipient (badSend n faulty sender recipient round signers) k
 
 -- what is heard of an event that 11 does not bar is what its step gives
 pub hears-step : (l : Line) (words : List ℕ) (e : Event) (increments : List ℕ) → barred (l .plan .stations) (l .plan .faulty) e increments ≡ false
@@ -564,81 +570,74 @@ hears-step l words (Send sender recipient round signers) increments b k p w ep e
     step-comes l words (Send sender recipient round signers) (Send sender recipient round signers) increments p w refl b (ep ∙ any .0) (ew ∙ any .1)
 
 -- of a message it is the recipient
-pub hearer-deliver : (n : ℕ) (e : Event) (x : Names) → e ≡ deliverOf x → hearer n false e ≡ x .recipient
-unfolding hearer recipientOr
-hearer-deliver n e x q = rw q refl
+pub recipient-deliver : (n : ℕ) (e : Event) (x : Names) → e ≡ deliverOf x → recipientOr n e ≡ x .recipient
+unfolding recipientOr
+recipient-deliver n e x q = rw q refl
 
-pub hearer-send : (n : ℕ) (e : Event) (sender recipient round signers : ℕ) → e ≡ Send sender recipient round signers → hearer n false e ≡ recipient
-unfolding hearer recipientOr
-hearer-send n e sender recipient round signers q = rw q refl
+pub recipient-send : (n : ℕ) (e : Event) (sender recipient round signers : ℕ) → e ≡ Send sender recipient round signers → recipientOr n e ≡ recipient
+unfolding recipientOr
+recipient-send n e sender recipient round signers q = rw q refl
 
 -- of an advance it is none
-pub hearer-advance : (n : ℕ) (e : Event) (d : ℕ) → e ≡ Advance d → hearer n false e < n → ⊥
-unfolding hearer recipientOr
-hearer-advance n e d q k = let m : n < n = rw q at k in omega arith
+pub recipient-advance : (n : ℕ) (e : Event) (d : ℕ) → e ≡ Advance d → recipientOr n e < n → ⊥
+unfolding recipientOr
+recipient-advance n e d q k = let m : n < n = rw q at k in omega arith
 
 -- a message that 11 does not bar is heard
-module _ {l : Line} {words : List ℕ} (h : Held l words) (e : Event) (increments : List ℕ) (b : Bool)
-    (q : b ≡ barred (l .plan .stations) (l .plan .faulty) e increments) (z : b ≡ false) (m : l .plan .stations ≤ hearer (l .plan .stations) b e) where
+module _ {l : Line} {words : List ℕ} (h : Held l words) (e : Event) (increments : List ℕ)
+    (z : barred (l .plan .stations) (l .plan .faulty) e increments ≡ false)
+    (m : l .plan .stations ≤ hearer (l .plan .stations) (l .plan .faulty) e) where
   pub never-deliver : (sender recipient round kind : ℕ) → e ≡ Deliver sender recipient round kind → ⊥
-  unfolding recipientOr
   never-deliver sender recipient round kind f =
-      let here = hearer-one (l .plan .stations) b e (Deliver sender recipient round kind) recipient z f refl in
-      omega (arith, here, m, deliver-recipient h e increments (sym q ∙ z) sender recipient round kind f)
+      let here = hears (l .plan .stations) (l .plan .faulty) e increments z in
+      let there = recipient-deliver (l .plan .stations) e (record { sender = sender; recipient = recipient; round = round; kind = kind }) f in
+      omega (arith, here, there, m, deliver-recipient h e increments z sender recipient round kind f)
 
   pub never-send : (sender recipient round signers : ℕ) → e ≡ Send sender recipient round signers → ⊥
-  unfolding recipientOr
   never-send sender recipient round signers f =
-      let here = hearer-one (l .plan .stations) b e (Send sender recipient round signers) recipient z f refl in
-      omega (arith, here, m, send-recipient h e increments (sym q ∙ z) sender recipient round signers f)
+      let here = hears (l .plan .stations) (l .plan .faulty) e increments z in
+      let there = recipient-send (l .plan .stations) e sender recipient round signers f in
+      omega (arith, here, there, m, send-recipient h e increments z sender recipient round signers f)
 
 -- what a deliver or a send comes to, as the event that it is
 module _ (signed : List ℕ) (plan : Plan) (time : Moment) (count : ℕ) (s : Station) (words : List ℕ) (e : Event) (h : Heard) (w : List ℕ) where
   pub hears-deliver : (x : Names) → e ≡ deliverOf x → Does plan time count (x .recipient) s words (deliverOf x) h w
-      → DoesBy signed plan time count (hearer (plan .stations) false e) s words e h w
-  unfolding hearer recipientOr
+      → DoesBy signed plan time count (recipientOr (plan .stations) e) s words e h w
+  unfolding recipientOr
   hears-deliver x q d =
       let at : DoesBy signed plan time count (x .recipient) s words (deliverOf x) h w = record { each = λ long table lies noted. d .each long table lies } in
       rw q at
 
   pub hears-send : (sender recipient round signers : ℕ) → e ≡ Send sender recipient round signers
       → DoesBy signed plan time count recipient s words (Send sender recipient round signers) h w
-      → DoesBy signed plan time count (hearer (plan .stations) false e) s words e h w
-  unfolding hearer recipientOr
+      → DoesBy signed plan time count (recipientOr (plan .stations) e) s words e h w
+  unfolding recipientOr
   hears-send sender recipient round signers q d = rw q d
 
--- an event that is heard is not barred
-pub hearer-low : (n : ℕ) (b : Bool) (e : Event) → hearer n b e < n → b ≡ false
-unfolding hearer
-hearer-low n true e k = absurd (omega arith)
-hearer-low n false e k = refl
-
-module _ {l : Line} {words : List ℕ} (h : Held l words) (b : Bool) (e : Event) (i : ℕ) (q : i ≡ hearer (l .plan .stations) b e)
+module _ {l : Line} {words : List ℕ} (h : Held l words) (e : Event) (i : ℕ) (q : i ≡ hearer (l .plan .stations) (l .plan .faulty) e)
     (k : i < l .plan .stations) where
-  -- the one that hears it
-  heard-by : i ≡ hearer (l .plan .stations) false e
-  heard-by =
-      let low : hearer (l .plan .stations) b e < l .plan .stations = omega (arith, q, k) in
-      q ∙ ap (λ (x : Bool). hearer (l .plan .stations) x e) (hearer-low (l .plan .stations) b e low)
+  not-barred : (increments : List ℕ) → barred (l .plan .stations) (l .plan .faulty) e increments ≡ false
+  not-barred increments = heard-not (l .plan .stations) (l .plan .faulty) e increments (omega (arith, q, k))
 
-  line-lies : Lies (l .plan) (l .time) (l .count) (hearer (l .plan .stations) false e) (getD (l .stations) i noStation) words (l .length) (l .stations)
+  -- the one that hears it
+  heard-by : i ≡ recipientOr (l .plan .stations) e
+  heard-by = q ∙ hears (l .plan .stations) (l .plan .faulty) e [] (not-barred [])
+
+  line-lies : Lies (l .plan) (l .time) (l .count) (recipientOr (l .plan .stations) e) (getD (l .stations) i noStation) words (l .length) (l .stations)
   line-lies = record {
     held = h;
     low = omega (arith, heard-by, k);
     here = table-station l i k ∙ ap (stationAt (runOf l [])) heard-by;
   }
 
-  pub line-stands : Stands (l .plan) (l .time) (l .count) (hearer (l .plan .stations) false e) (getD (l .stations) i noStation) words
+  pub line-stands : Stands (l .plan) (l .time) (l .count) (recipientOr (l .plan .stations) e) (getD (l .stations) i noStation) words
   line-stands = record { long = l .length; table = l .stations; lies = line-lies }
 
   -- the event's step is what it comes to there
-  pub line-heard : (increments : List ℕ) → b ≡ barred (l .plan .stations) (l .plan .faulty) e increments → (signed : List ℕ) → Noted l signed
-      → (r : Heard) (w : List ℕ)
-      → DoesBy signed (l .plan) (l .time) (l .count) (hearer (l .plan .stations) false e) (getD (l .stations) i noStation) words e r w
+  pub line-heard : (increments signed : List ℕ) → Noted l signed → (r : Heard) (w : List ℕ)
+      → DoesBy signed (l .plan) (l .time) (l .count) (recipientOr (l .plan .stations) e) (getD (l .stations) i noStation) words e r w
       → (seats l i r ≡ stepped l words e increments) × (w ≡ steppedWords l words e increments)
-  unfolding hearer
-  line-heard increments f signed n r w d =
+  line-heard increments signed n r w d =
       let does = d .each (l .length) (l .stations) line-lies n in
-      let not-barred = hearer-low (l .plan .stations) b e (omega (arith, q, k)) in
-      hears-step l words e increments (sym f ∙ not-barred) (omega (arith, heard-by, k)) (seats l i r) w
+      hears-step l words e increments (not-barred increments) (omega (arith, heard-by, k)) (seats l i r) w
       (ap (λ (j : ℕ). seats l j r) heard-by ∙ does .0) (does .1)

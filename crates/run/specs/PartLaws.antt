@@ -14,7 +14,7 @@ use Rattle.clock.specs.Limits.{maxScript, maxFlight}
 use Rattle.clock.specs.Pick.{pick}
 use Rattle.clock.specs.Tests.{both}
 use Rattle.event.specs.declared.Event.{Event}
-use Rattle.event.specs.Event.{barred}
+use Rattle.event.specs.Event.{hearer}
 use Rattle.setup.specs.declared.Plan.{Plan}
 use Rattle.number.specs.Number.{laid}
 use Rattle.number.specs.Laws.{length-laid}
@@ -40,7 +40,7 @@ use Rattle.run.specs.declared.Heard.{Heard}
 use Rattle.run.specs.Play.{placedTo, holding, comes, playAnswer, stepped, steppedWords}
 use Rattle.run.specs.Play.{played as eventPlayed, playedWords}
 use Rattle.run.specs.Limits.{Held, held-is, held-settled, table-station}
-use Rattle.run.specs.Hearing.{seats, Noted, DoesBy, signedTo, signed-length, noted-all, hearer, line-heard}
+use Rattle.run.specs.Hearing.{seats, Noted, DoesBy, signedTo, signed-length, noted-all, recipientOr, line-heard}
 use Rattle.run.specs.Follows.{placed-length, first-placed, play-keeps, play-words}
 use Rattle.run.specs.Part.{Opening, closed, begins, opened, opening, openPart, openOut, Standing, goesOn, lineOf, after, stops, readAt, playedFrom, seated, standing, played, partOf}
 
@@ -285,13 +285,6 @@ pub record Ready (l : Line) (words signed end : List ℕ) (long : ℕ) : Type 0 
   pub twelve : length (l .stations) ≡ 12
   pub beside : Beside (l .plan .stations) l signed end long
 
--- an end anew and an event's line with it
-pub record Shows (l : Line) (number answer : ℕ) (end out : List ℕ) (at long place : ℕ) (made written : List ℕ) : Type 0 where
-  pub long-is : long ≡ behind (fits l end 0) 0 (eventEnd (runOf l []))
-  pub made-is : made ≡ printed (fits l end 0) end 0 (eventEnd (runOf l []))
-  pub place-is : place ≡ behind (fitsEnd (take long made) out at) at (lineWith number answer (take long made))
-  pub written-is : written ≡ printed (fitsEnd (take long made) out at) out at (lineWith number answer (take long made))
-
 -- the end anew
 module _ (l : Line) (few : l .plan .stations ≤ 12) (end : List ℕ) (room : length end ≡ 320) where
   end-roomy : fits l end 0 ≡ true
@@ -415,6 +408,19 @@ module _ {n : ℕ} {l : Line} {signed end : List ℕ} {long : ℕ} (b : Beside n
 
 -- ---- a turn of the code
 
+-- an event is played: the record and the words are what its step gives, and what is kept beside them is theirs
+pub record Turned (n : ℕ) (here : Standing) (e : Event) (increments : List ℕ) (answer : ℕ) (l : Line) (w signed end : List ℕ) (long : ℕ) : Type 0 where
+  pub played : record { answer = answer; line = l } ≡ stepped (here .line) (here .words) e increments
+  pub words : w ≡ steppedWords (here .line) (here .words) e increments
+  pub beside : Beside n l signed end long
+
+-- whichever way it came to that
+pub turned-as : {n : ℕ} {here : Standing} {e : Event} {increments : List ℕ} {answer answer₁ : ℕ} {l l₁ : Line} {w w₁ signed signed₁ end end₁ : List ℕ}
+    {long long₁ : ℕ} → Turned n here e increments answer l w signed end long
+    → w₁ ≡ w → signed₁ ≡ signed → end₁ ≡ end → long₁ ≡ long → l₁ ≡ l → answer₁ ≡ answer
+    → Turned n here e increments answer₁ l₁ w₁ signed₁ end₁ long₁
+turned-as t ew es ee eg el ea = rw (ew, es, ee, eg, el, ea) t
+
 module _ (bytes : List ℕ) (start here : Standing) (o : Onward bytes start here) {n : ℕ} {signed end : List ℕ} {long : ℕ}
     (b : Beside n (here .line) signed end long) where
   pub turn-held : Held (here .line) (here .words)
@@ -434,15 +440,13 @@ module _ (bytes : List ℕ) (start here : Standing) (o : Onward bytes start here
   pub turn-read : (read : EventRead) → read ≡ asEvent bytes (readEvent n bytes (here .next)) → read ≡ readAt bytes here
   turn-read read e = e ∙ ap (λ (k : ℕ). asEvent bytes (readEvent k bytes (here .next))) (b .stations)
 
-  pub turn-barred : (x : Bool) (e : Event) (increments : List ℕ) → x ≡ barred n (here .line .plan .faulty) e increments
-      → x ≡ barred (here .line .plan .stations) (here .line .plan .faulty) e increments
-  turn-barred x e increments q = q ∙ ap (λ (k : ℕ). barred k (here .line .plan .faulty) e increments) (b .stations)
+  pub turn-hearer : (i : ℕ) (e : Event) → i ≡ hearer n (here .line .plan .faulty) e
+      → i ≡ hearer (here .line .plan .stations) (here .line .plan .faulty) e
+  turn-hearer i e q = q ∙ ap (λ (k : ℕ). hearer k (here .line .plan .faulty) e) (b .stations)
 
-  pub turn-hearer : (i : ℕ) (x : Bool) (e : Event) → i ≡ hearer n x e → i ≡ hearer (here .line .plan .stations) x e
-  turn-hearer i x e q = q ∙ ap (λ (k : ℕ). hearer k x e) (b .stations)
-
-  pub turn-nobody : (i : ℕ) (x : Bool) (e : Event) → i ≡ hearer n x e → n ≤ i → here .line .plan .stations ≤ hearer (here .line .plan .stations) x e
-  turn-nobody i x e q m = omega (arith, turn-hearer i x e q, m, b .stations)
+  pub turn-nobody : (i : ℕ) (e : Event) → i ≡ hearer n (here .line .plan .faulty) e → n ≤ i
+      → here .line .plan .stations ≤ hearer (here .line .plan .stations) (here .line .plan .faulty) e
+  turn-nobody i e q m = omega (arith, turn-hearer i e q, m, b .stations)
 
   -- the line of the record is as long as before
   pub turn-plan : (p : Played) (e : Event) (increments : List ℕ) → p ≡ stepped (here .line) (here .words) e increments → p .line .plan .stations ≡ n
@@ -450,88 +454,83 @@ module _ (bytes : List ℕ) (start here : Standing) (o : Onward bytes start here
       ap (λ (x : Played). x .line .plan .stations) q
       ∙ ap (λ (x : Plan). x .stations) (step-plan (here .line) (here .words) e increments) ∙ sym (b .stations)
 
-  module _ (g : goesOn bytes (here .next) (here .number) (here .out) (here .place) ≡ true) (read : EventRead)
-      (er : read ≡ asEvent bytes (readEvent n bytes (here .next))) (z : read .answer ≡ 0) where
-    -- once the event is played and its line written
-    turn-goes : (p : Played) (w : List ℕ) → p ≡ stepped (here .line) (here .words) (read .event) (take n (read .increments))
-        → w ≡ steppedWords (here .line) (here .words) (read .event) (take n (read .increments)) → (ends : List ℕ) → ends ≡ eventEnd (runOf (p .line) [])
-        → (place : ℕ) (out : List ℕ)
-        → place ≡ behind (fitsEnd ends (here .out) (here .place)) (here .place) (lineWith (here .number + 1) (p .answer) ends)
-        → out ≡ printed (fitsEnd ends (here .out) (here .place)) (here .out) (here .place) (lineWith (here .number + 1) (p .answer) ends)
-        → Onward bytes start (standing 0 (p .line) w (read .next) (here .number + 1) out place)
-    turn-goes p w ep ew ends ee place out el eo =
-        let same : take n (read .increments) ≡ take (here .line .plan .stations) (read .increments) =
-        ap (λ (k : ℕ). take k (read .increments)) (b .stations) in
-        onward-next bytes start here o g read (turn-read read er) z p w
-        (ep ∙ ap (stepped (here .line) (here .words) (read .event)) same) (ew ∙ ap (steppedWords (here .line) (here .words) (read .event)) same)
-        ends ee place out el eo
+  -- the event was heard by none
+  pub turn-passes : (e : Event) (increments : List ℕ) (p : Played) (w : List ℕ) → p ≡ stepped (here .line) (here .words) e increments
+      → w ≡ steppedWords (here .line) (here .words) e increments → (signed₁ : List ℕ)
+      → signed₁ ≡ signedTo (p .line) signed (p .line .plan .stations) → (long₁ : ℕ) (made : List ℕ)
+      → long₁ ≡ behind (fits (p .line) end 0) 0 (eventEnd (runOf (p .line) []))
+      → made ≡ printed (fits (p .line) end 0) end 0 (eventEnd (runOf (p .line) []))
+      → Turned n here e increments (p .answer) (p .line) w signed₁ made long₁
+  turn-passes e increments p w ep ew signed₁ es long₁ made el em =
+      let many = turn-plan p e increments ep in
+      let few : p .line .plan .stations ≤ 12 = omega (arith, many, turn-few) in
+      record {
+        played = ep;
+        words = ew;
+        beside = beside-new n (p .line) signed₁ signed end made long₁ (sym many) few (b .twelve) es (b .room) el em;
+      }
 
-    -- it was heard by none
-    pub turn-passes : (p : Played) (w : List ℕ) → p ≡ stepped (here .line) (here .words) (read .event) (take n (read .increments))
-        → w ≡ steppedWords (here .line) (here .words) (read .event) (take n (read .increments)) → (signed₁ : List ℕ)
-        → signed₁ ≡ signedTo (p .line) signed (p .line .plan .stations) → (long₁ place : ℕ) (made out : List ℕ)
-        → Shows (p .line) (here .number + 1) (p .answer) end (here .out) (here .place) long₁ place made out
-        → Onward bytes start (standing 0 (p .line) w (read .next) (here .number + 1) out place) × Beside n (p .line) signed₁ made long₁
-    turn-passes p w ep ew signed₁ es long₁ place made out s =
-        let many = turn-plan p (read .event) (take n (read .increments)) ep in
-        let few : p .line .plan .stations ≤ 12 = omega (arith, many, turn-few) in
-        let anew = beside-new n (p .line) signed₁ signed end made long₁ (sym many) few (b .twelve) es (b .room) (s .long-is) (s .made-is) in
-        (turn-goes p w ep ew (take long₁ made) (anew .ends) place out (s .place-is) (s .written-is), anew)
+  -- station i heard it
+  module _ (e : Event) (increments : List ℕ) (i : ℕ) (q : i ≡ hearer n (here .line .plan .faulty) e) (k : i < n) (h : Heard) (w : List ℕ)
+      (d : DoesBy signed (here .line .plan) (here .line .time) (here .line .count) (recipientOr (here .line .plan .stations) e)
+      (getD (here .line .stations) i noStation) (here .words) e h w) where
+    heard-step : (seats (here .line) i h ≡ stepped (here .line) (here .words) e increments) × (w ≡ steppedWords (here .line) (here .words) e increments)
+    heard-step = line-heard turn-held e i (turn-hearer i e q) (omega (arith, k, b .stations)) increments signed (b .noted) h w d
 
-    -- station i heard it
-    module _ (x : Bool) (f : x ≡ barred n (here .line .plan .faulty) (read .event) (take n (read .increments))) (i : ℕ)
-        (q : i ≡ hearer n x (read .event)) (k : i < n) (h : Heard) (w : List ℕ)
-        (d : DoesBy signed (here .line .plan) (here .line .time) (here .line .count) (hearer (here .line .plan .stations) false (read .event))
-        (getD (here .line .stations) i noStation) (here .words) (read .event) h w) where
-      heard-step : (seats (here .line) i h ≡ stepped (here .line) (here .words) (read .event) (take n (read .increments)))
-          × (w ≡ steppedWords (here .line) (here .words) (read .event) (take n (read .increments)))
-      heard-step =
-          line-heard turn-held x (read .event) i (turn-hearer i x (read .event) q) (omega (arith, k, b .stations)) (take n (read .increments))
-          (turn-barred x (read .event) (take n (read .increments)) f) signed (b .noted) h w d
+    heard-noted : Noted (seats (here .line) i h .line) (set signed i (h .station .signed))
+    heard-noted = seats-noted b i h (omega (arith, k, b .stations)) (o .twelve) line-few
 
-      heard-noted : Noted (seats (here .line) i h .line) (set signed i (h .station .signed))
-      heard-noted = seats-noted b i h (omega (arith, k, b .stations)) (o .twelve) line-few
+    heard-twelve : length (set signed i (h .station .signed)) ≡ 12
+    heard-twelve = length-set signed i (h .station .signed) ∙ b .twelve
 
-      heard-twelve : length (set signed i (h .station .signed)) ≡ 12
-      heard-twelve = length-set signed i (h .station .signed) ∙ b .twelve
+    -- and starts a round
+    pub turn-starts : (long₁ : ℕ) (made : List ℕ) → long₁ ≡ behind (fits (seats (here .line) i h .line) end 0) 0 (eventEnd (runOf (seats (here .line) i h .line) []))
+        → made ≡ printed (fits (seats (here .line) i h .line) end 0) end 0 (eventEnd (runOf (seats (here .line) i h .line) []))
+        → Turned n here e increments (h .answer) (seats (here .line) i h .line) w (set signed i (h .station .signed)) made long₁
+    turn-starts long₁ made el em =
+        let anew = end-made (seats (here .line) i h .line) line-few end (b .room) long₁ made el em in
+        record {
+          played = heard-step .0;
+          words = heard-step .1;
+          beside = record {
+            stations = b .stations;
+            noted = heard-noted;
+            twelve = heard-twelve;
+            room = anew .0;
+            fits = anew .1;
+            ends = anew .2;
+          };
+        }
 
-      -- and starts a round
-      pub turn-starts : (long₁ place : ℕ) (made out : List ℕ)
-          → Shows (seats (here .line) i h .line) (here .number + 1) (h .answer) end (here .out) (here .place) long₁ place made out
-          → Onward bytes start (standing 0 (seats (here .line) i h .line) w (read .next) (here .number + 1) out place)
-          × Beside n (seats (here .line) i h .line) (set signed i (h .station .signed)) made long₁
-      turn-starts long₁ place made out s =
-          let anew = end-made (seats (here .line) i h .line) line-few end (b .room) long₁ made (s .long-is) (s .made-is) in (
-            turn-goes (seats (here .line) i h) w (heard-step .0) (heard-step .1) (take long₁ made) (anew .2) place out (s .place-is) (s .written-is),
-            record {
-              stations = b .stations;
-              noted = heard-noted;
-              twelve = heard-twelve;
-              room = anew .0;
-              fits = anew .1;
-              ends = anew .2;
-            },
-          )
+    -- or stays in its round
+    pub turn-stays : h .station .round ≡ getD (here .line .stations) i noStation .round
+        → Turned n here e increments (h .answer) (seats (here .line) i h .line) w (set signed i (h .station .signed)) end long
+    turn-stays same = record {
+      played = heard-step .0;
+      words = heard-step .1;
+      beside = record {
+        stations = b .stations;
+        noted = heard-noted;
+        twelve = heard-twelve;
+        room = b .room;
+        fits = b .fits;
+        ends = b .ends ∙ sym (seats-end b i h (omega (arith, k, b .stations)) (o .twelve) line-few same);
+      };
+    }
 
-      -- or stays in its round
-      pub turn-stays : h .station .round ≡ getD (here .line .stations) i noStation .round → (place : ℕ) (out : List ℕ)
-          → place ≡ behind (fitsEnd (take long end) (here .out) (here .place)) (here .place) (lineWith (here .number + 1) (h .answer) (take long end))
-          → out ≡ printed (fitsEnd (take long end) (here .out) (here .place)) (here .out) (here .place) (lineWith (here .number + 1) (h .answer) (take long end))
-          → Onward bytes start (standing 0 (seats (here .line) i h .line) w (read .next) (here .number + 1) out place)
-          × Beside n (seats (here .line) i h .line) (set signed i (h .station .signed)) end long
-      turn-stays same place out elp eop =
-          let ends : take long end ≡ eventEnd (runOf (seats (here .line) i h .line) []) =
-          b .ends ∙ sym (seats-end b i h (omega (arith, k, b .stations)) (o .twelve) line-few same) in (
-            turn-goes (seats (here .line) i h) w (heard-step .0) (heard-step .1) (take long end) ends place out elp eop,
-            record {
-              stations = b .stations;
-              noted = heard-noted;
-              twelve = heard-twelve;
-              room = b .room;
-              fits = b .fits;
-              ends = ends;
-            },
-          )
+  -- once the event is played and its line written
+  pub turn-shown : goesOn bytes (here .next) (here .number) (here .out) (here .place) ≡ true → (read : EventRead)
+      → read ≡ asEvent bytes (readEvent n bytes (here .next)) → read .answer ≡ 0 → {answer : ℕ} {l : Line} {w signed₁ end₁ : List ℕ} {long₁ : ℕ}
+      → Turned n here (read .event) (take n (read .increments)) answer l w signed₁ end₁ long₁ → (place : ℕ) (out : List ℕ)
+      → place ≡ behind (fitsEnd (take long₁ end₁) (here .out) (here .place)) (here .place) (lineWith (here .number + 1) answer (take long₁ end₁))
+      → out ≡ printed (fitsEnd (take long₁ end₁) (here .out) (here .place)) (here .out) (here .place) (lineWith (here .number + 1) answer (take long₁ end₁))
+      → Onward bytes start (standing 0 l w (read .next) (here .number + 1) out place)
+  turn-shown g read er z {answer} {l} {w} {signed₁} {end₁} {long₁} t place out el eo =
+      let same : take n (read .increments) ≡ take (here .line .plan .stations) (read .increments) =
+      ap (λ (k : ℕ). take k (read .increments)) (b .stations) in
+      onward-next bytes start here o g read (turn-read read er) z (record { answer = answer; line = l }) w
+      (t .played ∙ ap (stepped (here .line) (here .words) (read .event)) same) (t .words ∙ ap (steppedWords (here .line) (here .words) (read .event)) same)
+      (take long₁ end₁) (t .beside .ends) place out el eo
 
 -- ---- the whole part
 

@@ -329,31 +329,7 @@ fn send(
     }
 }
 
-// The station that hears an event; n where none does: an advance, or one that 11 bars.
-fn hearer(stations: u64, barred: bool, event: Event) -> u64
-    ensures { λ r. ⌜ r ≡ hear.hearer stations barred event ⌝ }
-{
-    if barred {
-        return stations;
-    }
-    match event {
-        Event::Advance(_) => stations,
-        Event::Deliver {
-            sender: _,
-            recipient,
-            round: _,
-            kind: _,
-        } => recipient,
-        Event::Send {
-            sender: _,
-            recipient,
-            round: _,
-            signers: _,
-        } => recipient,
-    }
-}
-
-// What it comes to there.
+// What an event comes to at the station that hears it.
 fn hear(
     plan: Plan,
     time: Moment,
@@ -364,11 +340,11 @@ fn hear(
     places: &mut [u64],
     event: Event,
 ) -> Heard
-    requires { ⌜ hear.Stands plan time count (hear.hearer (plan .stations) false event) s (now words) ⌝ }
+    requires { ⌜ hear.Stands plan time count (hear.recipientOr (plan .stations) event) s (now words) ⌝ }
     requires { ⌜ length (now signed) ≡ 12 ⌝ }
     ensures { λ r.
         ⌜
-        hear.DoesBy (now (signed .entry)) plan time count (hear.hearer (plan .stations) false event) s (now (words .entry)) event r
+        hear.DoesBy (now (signed .entry)) plan time count (hear.recipientOr (plan .stations) event) s (now (words .entry)) event r
         (now (words .exit))
         ⌝ }
 {
@@ -599,14 +575,13 @@ fn advance(l: Line, words: &mut [u64], d: u64, increments: &[u64]) -> Played
 // ---- events
 
 // An event that no station hears: 11 where it is barred, else an advance.
-fn pass(l: Line, words: &mut [u64], barred: bool, event: Event, increments: &[u64]) -> Played
+fn pass(l: Line, words: &mut [u64], event: Event, increments: &[u64]) -> Played
     requires { ⌜ Held l (now words) ⌝ }
-    requires { ⌜ barred ≡ rule11.barred (l .plan .stations) (l .plan .faulty) event (now increments) ⌝ }
-    requires { ⌜ l .plan .stations ≤ hear.hearer (l .plan .stations) barred event ⌝ }
+    requires { ⌜ l .plan .stations ≤ rule11.hearer (l .plan .stations) (l .plan .faulty) event ⌝ }
     ensures { λ r. ⌜ r ≡ play.stepped l (now (words .entry)) event (now (increments .entry)) ⌝ }
     ensures { λ _. ⌜ now (words .exit) ≡ play.steppedWords l (now (words .entry)) event (now (increments .entry)) ⌝ }
 {
-    if barred {
+    if event::barred(l.plan.stations, l.plan.faulty, event, increments) {
         return Played {
             answer: 11,
             line: l,
@@ -641,10 +616,9 @@ fn step(l: Line, words: &mut [u64], event: Event, increments: &[u64]) -> Played
     ensures { λ r. ⌜ r ≡ play.stepped l (now (words .entry)) event (now (increments .entry)) ⌝ }
     ensures { λ _. ⌜ now (words .exit) ≡ play.steppedWords l (now (words .entry)) event (now (increments .entry)) ⌝ }
 {
-    let barred = event::barred(l.plan.stations, l.plan.faulty, event, increments);
-    let i = hearer(l.plan.stations, barred, event);
+    let i = event::hearer(l.plan.stations, l.plan.faulty, event);
     if i >= l.plan.stations {
-        return pass(l, words, barred, event, increments);
+        return pass(l, words, event, increments);
     }
     let mut signed = [0u64; 12];
     note_signed(l, &mut signed);

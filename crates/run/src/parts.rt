@@ -119,53 +119,36 @@ fn goes_on(bytes: &[u8], next: usize, number: u64, out: &[u8], place: usize) -> 
     (next < bytes.len()) & (number < MAX_SCRIPT) & text::roomy(out, place)
 }
 
-// The end of a line, and how far a line has come with it.
-struct Shown {
-    long: usize,
-    place: usize,
-}
-
-// Writes the end of a line anew, and an event's line with it.
-fn show(l: Line, number: u64, answer: u64, end: &mut [u8], out: &mut [u8], at: usize) -> Shown
-    requires { ⌜ (l .plan .stations ≤ 12) × (length (now end) ≡ 320) ⌝ }
-    ensures { λ r.
-        ⌜
-        laws.Shows l number answer (now (end .entry)) (now (out .entry)) at (r .long) (r .place) (now (end .exit)) (now (out .exit))
-        ⌝ }
-{
-    let long = text::line_end(l, end);
-    Shown {
-        long: long,
-        place: text::event_line(number, answer, &end[..long], out, at),
-    }
-}
-
 // Plays them on a valid record. Beside it are kept the last signed rounds, where messages were last put, and the end of the last
 // line.
 fn play_on(
-    l: Line,
+    mut line: Line,
     words: &mut [u64],
     bytes: &[u8],
-    at: usize,
-    played: u64,
+    mut next: usize,
+    mut number: u64,
     out: &mut [u8],
-    from: usize,
+    mut place: usize,
     signed: &mut [u64],
     places: &mut [u64],
     end: &mut [u8],
-    ends: usize,
+    mut long: usize,
 ) -> Part
-    requires { ⌜ laws.Ready l (now words) (now signed) (now end) ends ⌝ }
-    ensures { λ r. ⌜ r ≡ part.partOf (part.playedFrom (maxScript - played) (now (bytes .entry)) (part.standing 0 l (now (words .entry)) at played (now (out .entry)) from)) ⌝ }
-    ensures { λ _. ⌜ now (words .exit) ≡ part.playedFrom (maxScript - played) (now (bytes .entry)) (part.standing 0 l (now (words .entry)) at played (now (out .entry)) from) .words ⌝ }
-    ensures { λ _. ⌜ now (out .exit) ≡ part.playedFrom (maxScript - played) (now (bytes .entry)) (part.standing 0 l (now (words .entry)) at played (now (out .entry)) from) .out ⌝ }
+    requires { ⌜ laws.Ready line (now words) (now signed) (now end) long ⌝ }
+    ensures { λ r.
+        ⌜
+        r ≡ part.partOf (part.playedFrom (maxScript - number) (now (bytes .entry)) (part.standing 0 line (now (words .entry)) next number (now (out .entry)) place))
+        ⌝ }
+    ensures { λ _.
+        ⌜
+        now (words .exit) ≡ part.playedFrom (maxScript - number) (now (bytes .entry)) (part.standing 0 line (now (words .entry)) next number (now (out .entry)) place) .words
+        ⌝ }
+    ensures { λ _.
+        ⌜
+        now (out .exit) ≡ part.playedFrom (maxScript - number) (now (bytes .entry)) (part.standing 0 line (now (words .entry)) next number (now (out .entry)) place) .out
+        ⌝ }
 {
-    let n = l.plan.stations;
-    let mut line = l;
-    let mut long = ends;
-    let mut next = at;
-    let mut number = played;
-    let mut place = from;
+    let n = line.plan.stations;
     while goes_on(bytes, next, number, out, place) {
         let read = script::read_event(bytes, next, n);
         if read.answer != 0 {
@@ -178,43 +161,40 @@ fn play_on(
             };
         }
         let event = read.event;
-        let increments = read.increments;
-        let barred = event::barred(n, line.plan.faulty, event, &increments[..n as usize]);
-        let i = super::hearer(n, barred, event);
+        let i = event::hearer(n, line.plan.faulty, event);
         next = read.next;
         number += 1;
+        let mut answer: u64 = 0;
         if i >= n {
-            let p = super::pass(line, words, barred, event, &increments[..n as usize]);
+            let increments = read.increments;
+            let p = super::pass(line, words, event, &increments[..n as usize]);
             flight::note_places(words, line.count, p.line.count, places);
             line = p.line;
+            answer = p.answer;
             super::note_signed(line, signed);
-            let shown = show(line, number, p.answer, end, out, place);
-            long = shown.long;
-            place = shown.place;
-            continue;
+            long = text::line_end(line, end);
+        } else {
+            let was = line.stations[i as usize];
+            let h = super::hear(
+                line.plan,
+                line.time,
+                line.count,
+                was,
+                signed,
+                words,
+                places,
+                event,
+            );
+            let s = h.station;
+            line.stations[i as usize] = s;
+            line.count = h.count;
+            answer = h.answer;
+            signed[i as usize] = s.signed;
+            if s.round != was.round {
+                long = text::line_end(line, end);
+            }
         }
-        let was = line.stations[i as usize];
-        let h = super::hear(
-            line.plan,
-            line.time,
-            line.count,
-            was,
-            signed,
-            words,
-            places,
-            event,
-        );
-        let s = h.station;
-        line.stations[i as usize] = s;
-        line.count = h.count;
-        signed[i as usize] = s.signed;
-        if s.round != was.round {
-            let shown = show(line, number, h.answer, end, out, place);
-            long = shown.long;
-            place = shown.place;
-            continue;
-        }
-        place = text::event_line(number, h.answer, &end[..long], out, place);
+        place = text::event_line(number, answer, &end[..long], out, place);
     }
     Part {
         answer: 0,

@@ -13,17 +13,14 @@ bad-advance-requires c κs = search needs
 enum-known-event-2 : tie.Need-enum-known-event-2
 enum-known-event-2 c = search needs
 
-bad-ends-requires : tie.Need-bad-ends-requires
-bad-ends-requires c κs = search needs
+bad-deliver-requires : tie.Need-bad-deliver-requires
+bad-deliver-requires c κs = search needs
 
 enum-known-event-3 : tie.Need-enum-known-event-3
 enum-known-event-3 c = search needs
 
-bad-ends-requires-2 : tie.Need-bad-ends-requires-2
-bad-ends-requires-2 c κs = search needs
-
-below-requires : tie.Need-below-requires
-below-requires c κs = search needs
+bad-send-requires : tie.Need-bad-send-requires
+bad-send-requires c κs = search needs
 
 returns : tie.Need-returns
 unfolding barred
@@ -31,11 +28,11 @@ returns c = rw (c .before .before .event .given .1) (c .bad-advance .ensures)
 
 returns-2 : tie.Need-returns-2
 unfolding barred
-returns-2 c = rw (c .before .before .event2 .given .1, c .bad-ends .ensures)
+returns-2 c = rw (c .before .before .event2 .given .1) (c .bad-deliver .ensures)
 
 returns-3 : tie.Need-returns-3
 unfolding barred
-returns-3 c = rw (c .before .before .before .event3 .given .1, c .before .bad-ends2 .ensures, c .below .ensures)
+returns-3 c = rw (c .before .before .event3 .given .1) (c .bad-send .ensures)
 
 pub barred-spec : {M : Type 1} → statement M
 barred-spec =
@@ -44,10 +41,9 @@ barred-spec =
     enum-known-event
     bad-advance-requires
     enum-known-event-2
-    bad-ends-requires
+    bad-deliver-requires
     enum-known-event-3
-    bad-ends-requires-2
-    below-requires
+    bad-send-requires
     returns
     returns-2
     returns-3)

@@ -18,8 +18,8 @@ shared-slice-read-byte c = search needs
 cast-byte : tie.Need-cast-byte
 cast-byte c = omega (arith, c .shared-slice-known2 .given (c .before .before .before .args .at))
 
-add-t8 : tie.Need-add-t8
-add-t8 c = search needs
+add-t10 : tie.Need-add-t10
+add-t10 c = search needs
 
 returns-2 : tie.Need-returns-2
 returns-2 c = sym (number-short _ _ (c .before .before .if1 .left) (c .if2 .taken))
@@ -38,7 +38,7 @@ read-number-spec =
     returns
     shared-slice-read-byte
     cast-byte
-    add-t8
+    add-t10
     returns-2
     read-long-requires-2
     returns-3)

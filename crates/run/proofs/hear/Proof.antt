@@ -2,7 +2,7 @@
 use mathlib.Core.Path.{sym, subst}
 use Prim.Native.Nat.{ℕ}
 use denote.Ref.{now}
-use Rattle.run.specs.Hearing.{Stands, hearer-deliver, hearer-send, hearer-advance, hears-deliver, hears-send}
+use Rattle.run.specs.Hearing.{Stands, recipient-deliver, recipient-send, recipient-advance, hears-deliver, hears-send}
 use borrow.Author.Needs.{needs}
 use Rattle.run.proofs.hear.Statement.{statement}
 use Rattle.run.proofs.hear.Tie as tie
@@ -16,7 +16,7 @@ enum-known-event c = search needs
 deliver-requires : tie.Need-deliver-requires
 deliver-requires c κs =
     let a = c .before .before .before .before .before .before .before .before .args in
-    subst (λ (i : ℕ). Stands (a .plan) (a .time) (a .count) i (a .s) (now (a .words))) (hearer-deliver (a .plan .stations) (a .event) _ (c .before .before .before .event .given .1)) (c .before .before .before .before .before .before .before .before .pre .0)
+    subst (λ (i : ℕ). Stands (a .plan) (a .time) (a .count) i (a .s) (now (a .words))) (recipient-deliver (a .plan .stations) (a .event) _ (c .before .before .before .event .given .1)) (c .before .before .before .before .before .before .before .before .pre .0)
 
 enum-known-event-2 : tie.Need-enum-known-event-2
 enum-known-event-2 c = search needs
@@ -24,10 +24,10 @@ enum-known-event-2 c = search needs
 send-requires : tie.Need-send-requires
 send-requires c κs =
     let a = c .before .before .before .before .before .before .before .before .args in
-    (subst (λ (i : ℕ). Stands (a .plan) (a .time) (a .count) i (a .s) (now (a .words))) (hearer-send (a .plan .stations) (a .event) _ _ _ _ (c .before .before .before .event2 .given .1)) (c .before .before .before .before .before .before .before .before .pre .0), c .before .before .before .before .before .before .before .before .pre .1)
+    (subst (λ (i : ℕ). Stands (a .plan) (a .time) (a .count) i (a .s) (now (a .words))) (recipient-send (a .plan .stations) (a .event) _ _ _ _ (c .before .before .before .event2 .given .1)) (c .before .before .before .before .before .before .before .before .pre .0), c .before .before .before .before .before .before .before .before .pre .1)
 
 returns : tie.Need-returns
-returns c = absurd (hearer-advance _ _ _ (c .enum-told .given .1) (c .before .before .before .before .before .pre .0 .lies .low))
+returns c = absurd (recipient-advance _ _ _ (c .enum-told .given .1) (c .before .before .before .before .before .pre .0 .lies .low))
 
 same-length : tie.Need-same-length
 same-length c = search needs

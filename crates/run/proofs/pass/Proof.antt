@@ -8,14 +8,17 @@ use borrow.Author.Needs.{needs}
 use Rattle.run.proofs.pass.Statement.{statement}
 use Rattle.run.proofs.pass.Tie as tie
 
+barred-requires : tie.Need-barred-requires
+barred-requires c κs = search needs
+
 returns : tie.Need-returns
-returns c = comes-no _ _ _ _ 11 (step-barred _ _ _ _ (sym (c .before .before .before .pre .1 .0) ∙ c .if1 .taken)) (λ z. omega arith)
+returns c = comes-no _ _ _ _ 11 (step-barred _ _ _ _ (sym (c .before .barred .ensures) ∙ c .if1 .taken)) (λ z. omega arith)
 
 enum-known-event : tie.Need-enum-known-event
 enum-known-event c = search needs
 
 advance-requires : tie.Need-advance-requires
-advance-requires c κs = (c .before .before .before .before .before .before .before .pre .0, advance-going (c .before .before .before .before .before .before .before .pre .0) _ _ (sym (c .before .before .before .before .before .before .before .pre .1 .0) ∙ c .before .before .before .before .if1 .left) _ (c .before .before .event .given .1))
+advance-requires c κs = (c .before .before .before .before .before .before .before .before .pre .0, advance-going (c .before .before .before .before .before .before .before .before .pre .0) _ _ (sym (c .before .before .before .before .before .barred .ensures) ∙ c .before .before .before .before .if1 .left) _ (c .before .before .event .given .1))
 
 enum-told : tie.Need-enum-told
 enum-told c = search needs
@@ -29,18 +32,19 @@ same-length c = search needs
 returns-2 : tie.Need-returns-2
 returns-2 c =
     let e = c .before .before .advance .ensures in
-    step-comes _ _ _ _ _ _ _ (c .before .before .before .before .before .event .given .1) (sym (c .before .before .before .before .before .before .before .before .before .before .pre .1 .0) ∙ c .before .before .before .before .before .before .before .if1 .left) (e .0) (e .1)
+    step-comes _ _ _ _ _ _ _ (c .before .before .before .before .before .event .given .1) (sym (c .before .before .before .before .before .before .before .before .barred .ensures) ∙ c .before .before .before .before .before .before .before .if1 .left) (e .0) (e .1)
 
 returns-3 : tie.Need-returns-3
-returns-3 c = absurd (never-deliver (c .before .before .before .before .before .pre .0) _ _ _ (c .before .before .before .before .before .pre .1 .0) (c .before .before .if1 .left) (c .before .before .before .before .before .pre .1 .1) _ _ _ _ (c .enum-told .given .1))
+returns-3 c = absurd (never-deliver (c .before .before .before .before .before .before .pre .0) _ _ (sym (c .before .before .before .barred .ensures) ∙ c .before .before .if1 .left) (c .before .before .before .before .before .before .pre .1) _ _ _ _ (c .enum-told .given .1))
 
 returns-4 : tie.Need-returns-4
-returns-4 c = absurd (never-send (c .before .before .before .before .before .pre .0) _ _ _ (c .before .before .before .before .before .pre .1 .0) (c .before .before .if1 .left) (c .before .before .before .before .before .pre .1 .1) _ _ _ _ (c .enum-told2 .given .1))
+returns-4 c = absurd (never-send (c .before .before .before .before .before .before .pre .0) _ _ (sym (c .before .before .before .barred .ensures) ∙ c .before .before .if1 .left) (c .before .before .before .before .before .before .pre .1) _ _ _ _ (c .enum-told2 .given .1))
 
 pub pass-spec : {M : Type 1} → statement M
 pass-spec =
     tie.close
     (tie.spec
+    barred-requires
     returns
     enum-known-event
     advance-requires

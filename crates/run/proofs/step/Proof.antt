@@ -7,14 +7,11 @@ use borrow.Author.Needs.{needs}
 use Rattle.run.proofs.step.Statement.{statement}
 use Rattle.run.proofs.step.Tie as tie
 
-barred-requires : tie.Need-barred-requires
-barred-requires c κs = search needs
-
 hearer-requires : tie.Need-hearer-requires
 hearer-requires c κs = search needs
 
 pass-requires : tie.Need-pass-requires
-pass-requires c κs = (c .before .before .before .before .before .before .pre, (c .before .before .before .barred .ensures, omega (arith, c .before .before .hearer .ensures, c .before .if1 .taken)))
+pass-requires c κs = (c .before .before .before .before .before .pre, omega (arith, c .before .before .hearer .ensures, c .before .if1 .taken))
 
 same-length : tie.Need-same-length
 same-length c = search needs
@@ -26,13 +23,13 @@ slice-aggregate-note-signed : tie.Need-slice-aggregate-note-signed
 slice-aggregate-note-signed c = search needs
 
 note-signed-requires : tie.Need-note-signed-requires
-note-signed-requires c κs = let few = held-settled (c .before .before .before .before .before .before .pre) .few in (omega (arith, few), omega (arith, few))
+note-signed-requires c κs = let few = held-settled (c .before .before .before .before .before .pre) .few in (omega (arith, few), omega (arith, few))
 
 mul-s : tie.Need-mul-s
-mul-s c = omega (arith, held-settled (c .before .before .before .before .before .before .before .before .pre) .few, c .before .before .before .if1 .left)
+mul-s c = omega (arith, held-settled (c .before .before .before .before .before .before .before .pre) .few, c .before .before .before .if1 .left)
 
 element-copy-out-s : tie.Need-element-copy-out-s
-element-copy-out-s c = omega (arith, held-settled (c .before .before .before .before .before .before .before .before .pre) .few, c .before .before .before .if1 .left)
+element-copy-out-s c = omega (arith, held-settled (c .before .before .before .before .before .before .before .pre) .few, c .before .before .before .if1 .left)
 
 slice-aggregate-hear : tie.Need-slice-aggregate-hear
 slice-aggregate-hear c = search needs
@@ -41,28 +38,26 @@ slice-aggregate-hear-2 : tie.Need-slice-aggregate-hear-2
 slice-aggregate-hear-2 c = search needs
 
 hear-requires : tie.Need-hear-requires
-hear-requires c κs =
-    (line-stands (c .before .before .before .before .before .before .before .before .before .before .before .before .before .before .pre) _ _ _ (c .before .before .before .before .before .before .before .before .before .before .hearer .ensures) (c .before .before .before .before .before .before .before .before .before .if1 .left), search needs)
+hear-requires c κs = (line-stands (c .before .before .before .before .before .before .before .before .before .before .before .before .before .pre) _ _ (c .before .before .before .before .before .before .before .before .before .before .hearer .ensures) (c .before .before .before .before .before .before .before .before .before .if1 .left), search needs)
 
 seat-requires : tie.Need-seat-requires
-seat-requires c κs = omega (arith, held-settled (c .before .before .before .before .before .before .before .before .before .before .before .before .before .before .before .before .before .before .pre) .few, c .before .before .before .before .before .before .before .before .before .before .before .before .before .if1 .left)
+seat-requires c κs = omega (arith, held-settled (c .before .before .before .before .before .before .before .before .before .before .before .before .before .before .before .before .before .pre) .few, c .before .before .before .before .before .before .before .before .before .before .before .before .before .if1 .left)
 
 same-length-2 : tie.Need-same-length-2
 same-length-2 c = search needs
 
 returns-2 : tie.Need-returns-2
 returns-2 c =
-    let a = c .before .before .before .before .before .before .before .before .before .before .before .before .before .before .before .before .before .before .before .args in
-    let few = held-settled (c .before .before .before .before .before .before .before .before .before .before .before .before .before .before .before .before .before .before .before .pre) .few in
+    let a = c .before .before .before .before .before .before .before .before .before .before .before .before .before .before .before .before .before .before .args in
+    let few = held-settled (c .before .before .before .before .before .before .before .before .before .before .before .before .before .before .before .before .before .before .pre) .few in
     let noted = noted-all (a .t1) _ (omega (arith, few)) (c .before .before .before .before .before .before .before .before .before .before .before .before .note-signed .ensures) in
-    let heard = line-heard (c .before .before .before .before .before .before .before .before .before .before .before .before .before .before .before .before .before .before .before .pre) _ _ _ (c .before .before .before .before .before .before .before .before .before .before .before .before .before .before .before .hearer .ensures) (c .before .before .before .before .before .before .before .before .before .before .before .before .before .before .if1 .left) _ (c .before .before .before .before .before .before .before .before .before .before .before .before .before .before .before .before .barred .ensures) _ noted _ _ (c .before .before .before .before .hear .ensures) in
+    let heard = line-heard (c .before .before .before .before .before .before .before .before .before .before .before .before .before .before .before .before .before .before .pre) _ _ (c .before .before .before .before .before .before .before .before .before .before .before .before .before .before .before .hearer .ensures) (c .before .before .before .before .before .before .before .before .before .before .before .before .before .before .if1 .left) _ _ noted _ _ (c .before .before .before .before .hear .ensures) in
     (c .seat .ensures ∙ heard .0, heard .1)
 
 pub step-spec : {M : Type 1} → statement M
 step-spec =
     tie.close
     (tie.spec
-    barred-requires
     hearer-requires
     pass-requires
     same-length
