@@ -1,5 +1,5 @@
 // Plays a script and prints what each station does on standard output: the setup's answer, then a line for each event. What is
-// printed is made in `run`; here it is handed on in large pieces.
+// printed is made in `rehearsal` and `run`; here it is handed on in large pieces.
 use run::Part;
 
 // Plays an opened script part by part and prints each. A part holds one event at least, so there are no more than bytes.
@@ -22,7 +22,7 @@ fn play(bytes: &[u8], opened: Part, words: &mut [u64], out: &mut [u8]) {
 pub fn rehearse(bytes: &[u8]) {
     let mut words = [0u64; 3072];
     let mut out = io::large_buffer();
-    let opened = run::open(bytes, &mut out);
+    let opened = rehearsal::open(bytes, &mut out);
     if opened.answer != 0 {
         paper::print(&out, opened.place);
         return;

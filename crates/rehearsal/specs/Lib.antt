@@ -1,3 +1,4 @@
--- The rehearsal that the parts of a script are put together, and document 01's own computed on it.
+-- How a script opens, the rehearsal that its parts are put together, and document 01's own computed on it.
+pub mod Opening
 pub mod Rehearsed
 pub mod Printed

@@ -17,7 +17,7 @@ use Rattle.line.specs.Record.{badFaulty, badStationAt, someStation, badContent,
 use Rattle.line.specs.Event.{takeOut, effect, exceedsAt, driftsAt, passesAt, unsignedAt, unsigned, full, eventRules, stepAnswer, eventAnswer, step}
 use Rattle.line.specs.Fresh.{begun}
 use Rattle.text.specs.Text.{placesFrom, places, lastDigits, decimal, spaced, roundOf, roundsTo, eventEnd, lineWith, eventLine, told, setupLine, scriptLine}
-use Rattle.run.specs.Part.{opened, opening}
+use Rattle.rehearsal.specs.Opening.{opened, opening}
 use Rattle.rehearsal.specs.Rehearsed.{linesFrom, rehearsal}
 
 -- the setup, then eight events

@@ -29,8 +29,9 @@ use Rattle.run.specs.Play.{comes, playAnswer}
 use Rattle.run.specs.Play.{played as eventPlayed, playedWords}
 use Rattle.run.specs.Limits.{held-is, held-settled}
 use Rattle.run.specs.Follows.{play-answer, play-run, play-keeps}
-use Rattle.run.specs.Part.{Opening, closed, begins, opened, opening, Standing, goesOn, lineOf, after, stops, readAt, playedFrom, seated, standing, played}
+use Rattle.run.specs.Part.{Standing, goesOn, lineOf, after, stops, readAt, playedFrom, seated, standing, played}
 use Rattle.run.specs.PartLaws.{goes-number, line-of-most, seated-good, seated-twelve, seated-run}
+use Rattle.rehearsal.specs.Opening.{Opening, closed, begins, opened, opening}
 
 -- ---- the lines of a rehearsal
 

@@ -9,56 +9,14 @@ use Rattle.clock.specs.Limits.{maxScript}
 use Rattle.clock.specs.Pick.{pick}
 use Rattle.event.specs.declared.Event.{Event}
 use Rattle.number.specs.Number.{laid}
-use Rattle.script.specs.declared.read.SetupRead.{SetupRead}
 use Rattle.script.specs.declared.read.EventRead.{EventRead}
-use Rattle.script.specs.Read.{readSetup, asSetup, readEvent, asEvent}
+use Rattle.script.specs.Read.{readEvent, asEvent}
 use Rattle.line.specs.declared.Line.{Line}
 use Rattle.line.specs.Held.{firstOf, runOf, badLine}
-use Rattle.line.specs.declared.Begun.{Begun}
-use Rattle.line.specs.Fresh.{noStations, noPlan, lineFor, begun}
-use Rattle.text.specs.Text.{eventLine, setupLine, scriptLine, roomy, printed, behind}
+use Rattle.line.specs.Fresh.{noStations}
+use Rattle.text.specs.Text.{eventLine, scriptLine, roomy}
 use Rattle.run.specs.declared.parts.Part.{Part}
 use Rattle.run.specs.Play.{placedTo, playAnswer, played as eventPlayed, playedWords}
-
--- ---- opening a script
-
--- how a script opens: its answer, the run, the place of its first event and the first line
-pub record Opening : Type 0 where
-  pub answer : ℕ
-  pub line : Line
-  pub next : ℕ
-  pub first : List ℕ
-
--- no run
-abbrev pub closed : ℕ → ℕ → List ℕ → Opening
-closed answer next first = record { answer = answer; line = lineFor noPlan 0 noStations; next = next; first = first }
-
--- once the setup is read, the first line is `setup` and its answer
-abbrev pub begins : ℕ → Begun → Opening
-begins next b = record { answer = b .answer; line = b .line; next = next; first = setupLine (b .answer) }
-
--- 1 is answered as soon as n is read; where the setup can't be read on, the only line is `script` and the number
-unfoldable pub opened : SetupRead → Opening
-opened r =
-    pick (eqb (r .answer) 1) (closed 1 (r .next) (setupLine 1))
-    (pick (eqb (r .answer) 0) (begins (r .next) (begun (r .plan) (take (r .plan .stations) (r .first))))
-    (closed (r .answer) (r .next) (scriptLine (r .answer))))
-
--- more than 65,536 bytes are not read
-unfoldable pub opening : List ℕ → Opening
-opening bytes = pick (ltb maxScript (length bytes)) (closed 26 (length bytes) (scriptLine 26)) (opened (asSetup bytes (readSetup bytes 0)))
-
--- as the code answers it, the line at the beginning of the buffer
-abbrev pub openPart : Opening → List ℕ → Part
-openPart o out = record { answer = o .answer; line = o .line; next = o .next; number = 0; place = behind (roomy out 0) 0 (o .first) }
-
-abbrev pub openOut : Opening → List ℕ → List ℕ
-openOut o out = printed (roomy out 0) out 0 (o .first)
-
-abbrev pub ended : ℕ → ℕ → ℕ → Part
-ended answer next place = record { answer = answer; line = lineFor noPlan 0 noStations; next = next; number = 0; place = place }
-
--- ---- playing it
 
 -- where the playing stands: its answer, the record and its words, the place of the next event, the number of the last one
 -- played, the buffer and the place behind the last line

@@ -9,7 +9,7 @@ use native.Mathlib.Omega.{arith}
 use lib.Dec.{ltb, eqb}
 use lib.ListN.{length, getD, set, take, drop, length-set}
 use lib.Seq.{getD-set-same, getD-set-other, take-append-seam}
-use borrow.Author.Tests.{ltb-true, lt-ltb, le-ltb, eq-eqb, ne-eqb, eqb-true, eqb-false}
+use borrow.Author.Tests.{ltb-true, eq-eqb, ne-eqb, eqb-true, eqb-false}
 use Rattle.clock.specs.Limits.{maxScript, maxFlight}
 use Rattle.clock.specs.Pick.{pick}
 use Rattle.clock.specs.Tests.{both}
@@ -18,9 +18,8 @@ use Rattle.event.specs.Event.{hearer}
 use Rattle.setup.specs.declared.Plan.{Plan}
 use Rattle.number.specs.Number.{laid}
 use Rattle.number.specs.Laws.{length-laid}
-use Rattle.script.specs.declared.read.SetupRead.{SetupRead}
 use Rattle.script.specs.declared.read.EventRead.{EventRead}
-use Rattle.script.specs.Read.{readSetup, asSetup, readEvent, asEvent}
+use Rattle.script.specs.Read.{readEvent, asEvent}
 use Rattle.script.specs.ReadLaws.{increments-long}
 use Rattle.station.specs.declared.Station.{Station}
 use Rattle.line.specs.declared.Line.{Line}
@@ -29,9 +28,8 @@ use Rattle.line.specs.Event.{effect, stepAnswer}
 use Rattle.line.specs.Record.{badRecord}
 use Rattle.line.specs.Held.{firstOf, stationOf, runOf, badLine}
 use Rattle.line.specs.HeldLaws.{first-length, station-of}
-use Rattle.line.specs.declared.Begun.{Begun}
-use Rattle.line.specs.Fresh.{noStations, begun}
-use Rattle.text.specs.Text.{eventEnd, lineWith, eventLine, setupLine, scriptLine, roomy, fits, fitsEnd, printed, behind}
+use Rattle.line.specs.Fresh.{noStations}
+use Rattle.text.specs.Text.{eventEnd, lineWith, eventLine, scriptLine, roomy, fits, fitsEnd, printed, behind}
 use Rattle.text.specs.Laws.{fits-well, fits-end, end-same}
 use Rattle.text.specs.Room.{roomy-has, line-most, end-most}
 use Rattle.run.specs.declared.Played.{Played}
@@ -42,39 +40,7 @@ use Rattle.run.specs.Play.{played as eventPlayed, playedWords}
 use Rattle.run.specs.Limits.{Held, held-is, held-settled, table-station}
 use Rattle.run.specs.Hearing.{seats, Noted, DoesBy, signedTo, signed-length, noted-all, recipientOr, line-heard}
 use Rattle.run.specs.Follows.{placed-length, first-placed, play-keeps, play-words}
-use Rattle.run.specs.Part.{Opening, closed, begins, opened, opening, openPart, openOut, Standing, goesOn, lineOf, after, stops, readAt, playedFrom, seated, standing, played, partOf}
-
--- ---- opening
-
--- what is known to be the opening is answered as such
-pub open-is : (bytes out : List ℕ) (o : Opening) → opening bytes ≡ o → (p : Part) (w : List ℕ) → p ≡ openPart o out → w ≡ openOut o out
-    → (p ≡ openPart (opening bytes) out) × (w ≡ openOut (opening bytes) out)
-open-is bytes out o e p w ep ew = rw e (ep, ew)
-
-pub opening-long : (bytes : List ℕ) → maxScript < length bytes → opening bytes ≡ closed 26 (length bytes) (scriptLine 26)
-unfolding opening
-opening-long bytes h = rw (lt-ltb maxScript (length bytes) h) refl
-
-module _ (bytes : List ℕ) (short : length bytes ≤ maxScript) (r : SetupRead) (er : r ≡ asSetup bytes (readSetup bytes 0)) where
-  opening-read : opening bytes ≡ opened r
-  unfolding opening
-  opening-read = rw (le-ltb maxScript (length bytes) short, er) refl
-
-  -- 1
-  pub opening-one : r .answer ≡ 1 → opening bytes ≡ closed 1 (r .next) (setupLine 1)
-  unfolding opened
-  opening-one e = opening-read ∙ rw (eq-eqb (r .answer) 1 e) refl
-
-  module _ (other : r .answer ≡ 1 → ⊥) where
-    -- 21 to 23
-    pub opening-stops : (r .answer ≡ 0 → ⊥) → opening bytes ≡ closed (r .answer) (r .next) (scriptLine (r .answer))
-    unfolding opened
-    opening-stops e = opening-read ∙ rw (ne-eqb (r .answer) 1 other, ne-eqb (r .answer) 0 e) refl
-
-    -- the setup is read to its end
-    pub opening-begins : r .answer ≡ 0 → (b : Begun) → b ≡ begun (r .plan) (take (r .plan .stations) (r .first)) → opening bytes ≡ begins (r .next) b
-    unfolding opened
-    opening-begins e b eb = opening-read ∙ rw (ne-eqb (r .answer) 1 other, eq-eqb (r .answer) 0 e, eb) refl
+use Rattle.run.specs.Part.{Standing, goesOn, lineOf, after, stops, readAt, playedFrom, seated, standing, played, partOf}
 
 -- ---- seating
 

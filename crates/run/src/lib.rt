@@ -33,7 +33,6 @@ use flight::Message;
 use flight::Names;
 use line::Line;
 pub use parts::Part;
-pub use parts::open;
 pub use parts::play_part;
 use setup::Plan;
 use station::Outcome;

@@ -8,10 +8,8 @@ ghost use Rattle.clock.specs.Limits.{maxScript};
 ghost use Rattle.run.specs.Part as part;
 ghost use Rattle.run.specs.PartLaws as laws;
 use clock::MAX_SCRIPT;
-use clock::Moment;
 use clock::Reading;
 use line::Line;
-use setup::Plan;
 use station::Station;
 
 // How far a script is played: 0, or 10 for the record, or 21 to 24 where the script can't be read on; the run, the place of
@@ -22,72 +20,6 @@ pub struct Part {
     pub next: usize,
     pub number: u64,
     pub place: usize,
-}
-
-// No run: the number that ends the reading, and the line that says so.
-fn ended(answer: u64, next: usize, place: usize) -> Part
-    ensures { λ r. ⌜ r ≡ part.ended answer next place ⌝ }
-{
-    let table = [Station {
-        round: 0,
-        reading: Reading(0),
-        signed: 0,
-        gathered: 0,
-    }; 12];
-    Part {
-        answer: answer,
-        line: Line {
-            plan: Plan {
-                stations: 0,
-                faults: 0,
-                drift: 0,
-                bound: 0,
-                spread: 0,
-                step: 0,
-                period: 0,
-                faulty: 0,
-            },
-            time: Moment(0),
-            length: 0,
-            stations: table,
-            count: 0,
-        },
-        next: next,
-        number: 0,
-        place: place,
-    }
-}
-
-// Opens a script: its setup is read and answered, and the first line written. A refused one ends it, and so does a script
-// that can't be read or is too long.
-pub fn open(bytes: &[u8], out: &mut [u8]) -> Part
-    ensures { λ r. ⌜ r ≡ part.openPart (part.opening (now (bytes .entry))) (now (out .entry)) ⌝ }
-    ensures { λ _. ⌜ now (out .exit) ≡ part.openOut (part.opening (now (bytes .entry))) (now (out .entry)) ⌝ }
-{
-    if bytes.len() as u64 > MAX_SCRIPT {
-        let place = text::script_line(26, out, 0);
-        return ended(26, bytes.len(), place);
-    }
-    let read = script::read_setup(bytes, 0);
-    if read.answer == 1 {
-        let place = text::setup_line(1, out, 0);
-        return ended(1, read.next, place);
-    }
-    if read.answer != 0 {
-        let place = text::script_line(read.answer, out, 0);
-        return ended(read.answer, read.next, place);
-    }
-    let first = read.first;
-    let plan = read.plan;
-    let begun = line::fresh(plan, &first[..plan.stations as usize]);
-    let line = begun.line;
-    Part {
-        answer: begun.answer,
-        line: line,
-        next: read.next,
-        number: 0,
-        place: text::setup_line(begun.answer, out, 0),
-    }
 }
 
 // The run in a table with nothing behind its stations.

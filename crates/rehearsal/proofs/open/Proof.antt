@@ -1,4 +1,4 @@
--- `run::open` answers the setup and writes the first line, each answer at its own test. Assumes nothing.
+-- `rehearsal::open` answers the setup and writes the first line, each answer at its own test. Assumes nothing.
 use mathlib.Core.Path.{refl, ap, sym, _∙_}
 use native.Mathlib.Omega.{arith}
 use denote.Ref.{now}
@@ -7,10 +7,10 @@ use lib.Seq.{length-take-le}
 use Rattle.script.specs.declared.read.SetupRead.{SetupRead}
 use Rattle.script.specs.Read.{readSetup}
 use Rattle.script.specs.ReadLaws.{first-long, setup-few}
-use Rattle.run.specs.PartLaws.{open-is, opening-long, opening-one, opening-stops, opening-begins}
+use Rattle.rehearsal.specs.Opening.{open-is, opening-long, opening-one, opening-stops, opening-begins}
 use borrow.Author.Needs.{needs}
-use Rattle.run.proofs.parts.open.Statement.{statement}
-use Rattle.run.proofs.parts.open.Tie as tie
+use Rattle.rehearsal.proofs.open.Statement.{statement}
+use Rattle.rehearsal.proofs.open.Tie as tie
 
 script-line-requires : tie.Need-script-line-requires
 script-line-requires c κs = search needs
