@@ -6,5 +6,3 @@ pub mod Apart
 pub mod Keys
 pub mod Places
 pub mod Sending
-pub mod Notes
-pub mod Marks

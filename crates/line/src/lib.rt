@@ -278,7 +278,7 @@ pub fn bad_line(l: Line, words: &[u64]) -> bool
     if some_bad_message(l, words) {
         return true;
     }
-    flight::twins(words, l.count)
+    notes::twins(words, l.count)
 }
 
 // ---- questions

@@ -146,7 +146,7 @@ fn take_out(words: &mut [u64], count: u64, at: u64, places: &mut [u64]) -> u64
         ⌝ }
 {
     let left = flight::take_out(words, count, at);
-    flight::note_places(words, at, at + 1, places);
+    notes::note_places(words, at, at + 1, places);
     left.count
 }
 
@@ -170,7 +170,7 @@ fn tell_noted(
         ⌝ }
 {
     let after = tell(words, count, plan, time, i, round, o);
-    flight::note_places(words, count, after, places);
+    notes::note_places(words, count, after, places);
     after
 }
 
@@ -547,7 +547,7 @@ fn advance(l: Line, words: &mut [u64], d: u64, increments: &[u64]) -> Played
             line: l,
         };
     }
-    if flight::overdue(words, l.count, time, l.plan.bound) {
+    if notes::overdue(words, l.count, time, l.plan.bound) {
         return Played {
             answer: 15,
             line: l,

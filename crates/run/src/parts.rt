@@ -100,7 +100,7 @@ fn play_on(
         if i >= n {
             let increments = read.increments;
             let p = super::pass(line, words, event, &increments[..n as usize]);
-            flight::note_places(words, line.count, p.line.count, places);
+            notes::note_places(words, line.count, p.line.count, places);
             line = p.line;
             answer = p.answer;
             super::note_signed(line, signed);
@@ -174,7 +174,7 @@ pub fn play_part(
     let mut signed = [0u64; 12];
     super::note_signed(line, &mut signed);
     let mut places = [0u64; 512];
-    flight::note_places(words, 0, line.count, &mut places);
+    notes::note_places(words, 0, line.count, &mut places);
     let mut end = [0u8; 320];
     let long = text::line_end(line, &mut end);
     play_on(

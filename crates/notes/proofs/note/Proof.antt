@@ -1,4 +1,4 @@
--- `flight::note` notes the oldest time sent of each pair. The loop's invariant: the notes are those of the messages passed.
+-- `notes::note` notes the oldest time sent of each pair. The loop's invariant: the notes are those of the messages passed.
 -- Assumes nothing.
 use mathlib.Core.Path.{_≡_, refl, ap, ap₂, _∙_}
 use Prim.Native.Nat.{ℕ, _+_, _*_, _-_, _%_, _≤_, min}
@@ -7,9 +7,9 @@ use native.Mathlib.Numerals.{add-one}
 use borrow.Author.Needs.{needs}
 use mathlib.Core.List.{List}
 use lib.ListN.{length, getD, set}
-use Rattle.flight.specs.Notes.{noted, length-noted}
-use Rattle.flight.proofs.note.Statement.{statement}
-use Rattle.flight.proofs.note.Tie as tie
+use Rattle.notes.specs.Notes.{noted, length-noted}
+use Rattle.notes.proofs.note.Statement.{statement}
+use Rattle.notes.proofs.note.Tie as tie
 
 abbrev Inv-loop : tie.InvT-loop
 Inv-loop words count oldest₀ i₀ oldest i = (i ≤ count) × (oldest ≡ noted i words oldest₀)

@@ -1,13 +1,13 @@
--- `flight::twins` answers `twins`. The loop's invariant: the place of each word passed is marked, and no two of those words are equal.
+-- `notes::twins` answers `twins`. The loop's invariant: the place of each word passed is marked, and no two of those words are equal.
 -- Assumes nothing.
 use Prim.Native.Nat.{_-_, _%_, _≤_}
 use mathlib.Core.Path.{_≡_, refl, sym, _∙_}
 use native.Mathlib.Omega.{arith}
 use lib.ListN.{length, getD, length-set}
 use Rattle.flight.specs.Keys.{holds-true, holds-false}
-use Rattle.flight.specs.Marks.{first, Marked, Different, marked-none, marked-more, different-none, different-more, different-twins, new-word, word-twins}
-use Rattle.flight.proofs.twins.Statement.{statement}
-use Rattle.flight.proofs.twins.Tie as tie
+use Rattle.notes.specs.Marks.{first, Marked, Different, marked-none, marked-more, different-none, different-more, different-twins, new-word, word-twins}
+use Rattle.notes.proofs.twins.Statement.{statement}
+use Rattle.notes.proofs.twins.Tie as tie
 
 abbrev Inv-loop : tie.InvT-loop
 Inv-loop words count marks₀ i₀ marks i = (i ≤ count) × (length marks ≡ 1024) × Marked i words marks × Different i words

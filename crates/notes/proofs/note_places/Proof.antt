@@ -1,15 +1,15 @@
--- `flight::note_places` notes the messages from the first to the last. The loop's invariant: the notes are those of the messages
+-- `notes::note_places` notes the messages from the first to the last. The loop's invariant: the notes are those of the messages
 -- passed. Assumes nothing.
 use Prim.Native.Nat.{ℕ, _-_, _≤_}
 use mathlib.Core.Path.{_≡_, refl, ap, _∙_}
 use native.Mathlib.Omega.{arith}
 use lib.ListN.{length}
 use Rattle.flight.specs.Message.{placesTo}
 use Rattle.flight.specs.Keys.{holds-true, holds-false}
 use Rattle.flight.specs.Places.{length-places, places-start, places-turn}
 use borrow.Author.Needs.{needs}
-use Rattle.flight.proofs.note_places.Statement.{statement}
-use Rattle.flight.proofs.note_places.Tie as tie
+use Rattle.notes.proofs.note_places.Statement.{statement}
+use Rattle.notes.proofs.note_places.Tie as tie
 
 abbrev Inv-loop : tie.InvT-loop
 Inv-loop words from to places₀ i₀ places i = (from ≤ i) × (i - from ≤ to - from) × (places ≡ placesTo words from (i - from) places₀)

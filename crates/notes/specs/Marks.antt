@@ -9,14 +9,16 @@ use native.Mathlib.Decide.{decLt}
 use lib.Dec.{ltb, eqb}
 use lib.ListN.{length, getD, set}
 use lib.Seq.{getD-set-same, getD-set-other}
-use borrow.Author.Tests.{ltb-true, ltb-false, eqb-true, eqb-false}
+use borrow.Author.Tests.{ltb-true, ltb-false, lt-ltb, eqb-true, eqb-false}
 use Rattle.clock.specs.Pick.{pick}
 use Rattle.clock.specs.Tests.{both}
-use Rattle.flight.specs.Message.{named, sameNames, unpacked, messageOf, messageAt, decode, noMessage, indexOf, twins}
+use Rattle.flight.specs.declared.Names.{Names}
+use Rattle.flight.specs.declared.Message.{Message}
+use Rattle.flight.specs.Message.{named, sameNames, unpacked, messageOf, messageAt, decode, holds, noMessage, indexOf, nearOr, twins}
 use Rattle.flight.specs.Members.{all-at, none-indexOf, indexOf-named}
 use Rattle.flight.specs.Coding.{length-decode, decode-at}
-use Rattle.flight.specs.Keys.{named-key, other-key}
+use Rattle.flight.specs.Keys.{holds-true, named-key, other-key}
 use Rattle.flight.specs.Apart.{Apart, apart-twins, twins-at, same-turn}
 
 -- the first word of the i-th message
 abbrev pub first : List ℕ → ℕ → ℕ
@@ -36,6 +38,32 @@ stands i l key mark = not (eqb mark 0) && ltb (indexOf (unpacked key) (decode i 
 
 never : true ≡ false → ⊥
 never q = let z : _≡_ {A = ℕ} 0 1 = ap (λ (b : Bool). pick b 0 1) q in omega arith
+
+-- whatever place is looked at first, names are found where they stand
+pub near-found : (near : ℕ) (x : Names) (ms : List Message) → ltb (nearOr near x ms) (length ms) ≡ ltb (indexOf x ms) (length ms)
+unfolding nearOr
+near-found near x ms = go (ltb near (length ms)) refl (named x (getD ms near noMessage)) refl
+  where
+    found : near < length ms → named x (getD ms near noMessage) ≡ true → indexOf x ms < length ms
+    found h here = elim (decLt (indexOf x ms) (length ms)) [
+      | yes b ↦ b
+      | no b ↦ absurd (never (sym here ∙ all-at (none-indexOf x ms (omega arith)) near noMessage h))
+    ]
+
+    go : (a : Bool) → ltb near (length ms) ≡ a → (b : Bool) → named x (getD ms near noMessage) ≡ b
+        → ltb (pick (a && b) near (indexOf x ms)) (length ms) ≡ ltb (indexOf x ms) (length ms)
+    go true l true here = l ∙ sym (lt-ltb (indexOf x ms) (length ms) (found (ltb-true near (length ms) l) here))
+    go true l false here = refl
+    go false l true here = refl
+    go false l false here = refl
+
+-- what is found of a word, whatever place is looked at first
+pub word-found : (i : ℕ) (l : List ℕ) (near key r : ℕ) → 3 * i ≤ length l → r ≡ pick (holds i l) (nearOr near (unpacked key) (decode i l)) i
+    → ltb r i ≡ ltb (indexOf (unpacked key) (decode i l)) i
+word-found i l near key r h e =
+    let room = holds-true i l (omega arith) in
+    let found : r ≡ nearOr near (unpacked key) (decode i l) = e ∙ rw room refl in
+    rw found (rw (length-decode i l) at (near-found near (unpacked key) (decode i l)))
 
 pub marked-none : (l marks : List ℕ) → Marked 0 l marks
 unfolding Marked

@@ -1,4 +1,4 @@
--- `flight::search` answers whether a time noted is before the limit. Each loop's invariant: no time at a place passed is.
+-- `notes::search` answers whether a time noted is before the limit. Each loop's invariant: no time at a place passed is.
 -- Assumes nothing.
 use mathlib.Core.Bool.{false}
 use mathlib.Core.Path.{_≡_, refl, sym, _∙_}
@@ -7,10 +7,10 @@ use native.Mathlib.Omega.{arith}
 use borrow.Author.Needs.{needs}
 use borrow.Author.Count.{below-more}
 use lib.ListN.{getD}
 use Rattle.flight.specs.Members.{all-of}
-use Rattle.flight.specs.Notes.{before-at, before-none}
-use Rattle.flight.proofs.search.Statement.{statement}
-use Rattle.flight.proofs.search.Tie as tie
+use Rattle.notes.specs.Notes.{before-at, before-none}
+use Rattle.notes.proofs.search.Statement.{statement}
+use Rattle.notes.proofs.search.Tie as tie
 
 abbrev Inv-loop : tie.InvT-loop
 Inv-loop oldest limit found₀ sender recipient₀ found recipient = (recipient ≤ 16) × (found ≡ false) ×

@@ -1,9 +1,9 @@
--- `flight::note_place` answers `set`: past the end that changes nothing. Assumes nothing.
+-- `notes::note_place` answers `set`: past the end that changes nothing. Assumes nothing.
 use mathlib.Core.Path.{sym}
 use lib.Seq.{set-out}
 use borrow.Author.Needs.{needs}
-use Rattle.flight.proofs.note_place.Statement.{statement}
-use Rattle.flight.proofs.note_place.Tie as tie
+use Rattle.notes.proofs.note_place.Statement.{statement}
+use Rattle.notes.proofs.note_place.Tie as tie
 
 mul-places : tie.Need-mul-places
 mul-places c = search needs

@@ -1,16 +1,16 @@
--- `flight::overdue` answers `overdue`: the notes of all messages tell whether one was sent too long ago. Assumes nothing.
+-- `notes::overdue` answers `overdue`: the notes of all messages tell whether one was sent too long ago. Assumes nothing.
 use Prim.Native.Nat.{_-_}
 use mathlib.Core.Path.{refl, sym, ap, _∙_}
 use native.Mathlib.Omega.{arith}
 use lib.ListN.{replicate}
 use Rattle.clock.specs.Limits.{last}
 use Rattle.flight.specs.Message.{decode, someOf}
 use Rattle.flight.specs.Members.{overdue-early}
 use Rattle.flight.specs.Keys.{holds-true, holds-false}
-use Rattle.flight.specs.Notes.{before, noted-overdue, first-notes}
+use Rattle.notes.specs.Notes.{before, noted-overdue, first-notes}
 use borrow.Author.Needs.{needs}
-use Rattle.flight.proofs.overdue.Statement.{statement}
-use Rattle.flight.proofs.overdue.Tie as tie
+use Rattle.notes.proofs.overdue.Statement.{statement}
+use Rattle.notes.proofs.overdue.Tie as tie
 
 returns : tie.Need-returns
 returns c =
