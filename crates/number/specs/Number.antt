@@ -1,15 +1,13 @@
 -- A number as bytes, document 01, "Scripts": groups of seven bits, lowest first, the top bit of a byte set where another
 -- follows, in the fewest bytes.
 use Prim.Native.Nat.{ℕ, zero, suc, _+_, _*_, _/_, _%_}
-use mathlib.Core.Bool.{Bool, _&&_, not}
+use mathlib.Core.Bool.{_&&_, not}
 use mathlib.Core.List.{List, [], _∷_, _++_}
 use lib.Dec.{ltb, leb, eqb}
 use lib.ListN.{length, getD, take, drop}
 use Rattle.clock.specs.Pick.{pick}
 use Rattle.number.specs.declared.Number.{Number}
 use Rattle.number.specs.declared.Number.the-variants.{Value, Refused}
-use Rattle.number.specs.declared.Written.{Written}
-use Rattle.number.specs.declared.Written.the-variants as written
 
 -- ---- reading
 
@@ -51,15 +49,3 @@ bytesOf (v ∷ vs) = numberBytes v ++ bytesOf vs
 -- the buffer with bytes laid over it from a place on; those before and behind are as they were
 unfoldable pub laid : List ℕ → ℕ → List ℕ → List ℕ
 laid out at bytes = take at out ++ bytes ++ drop (at + length bytes) out
-
--- the buffer has room for them
-unfoldable pub room : List ℕ → ℕ → List ℕ → Bool
-room out at bytes = leb (at + length bytes) (length out)
-
--- the answer to writing bytes: how many, or 25
-unfoldable pub wrote : List ℕ → ℕ → List ℕ → Written
-wrote out at bytes = pick (room out at bytes) (written.Bytes (length bytes)) (written.Refused 25)
-
--- and the buffer then: nothing is written where it is too short
-unfoldable pub buffer : List ℕ → ℕ → List ℕ → List ℕ
-buffer out at bytes = pick (room out at bytes) (laid out at bytes) out

@@ -1,6 +1,6 @@
 // What is printed on standard output: bytes that others made; and an answer on a record, with the record as rows of numbers.
 use libc::STDOUT_FILENO;
-use number::Written;
+use writer::Written;
 
 // Prints the first `count` bytes.
 pub fn print(out: &[u8], count: usize) {
@@ -22,7 +22,7 @@ fn beyond(from: usize, width: usize) -> usize {
 
 // Bytes behind those that are written; none where there is no room.
 fn add(bytes: &[u8], out: &mut [u8], place: usize) -> usize {
-    let Written::Bytes(count) = number::write_bytes(bytes, out, place) else {
+    let Written::Bytes(count) = writer::write_bytes(bytes, out, place) else {
         return place;
     };
     beyond(place, count)

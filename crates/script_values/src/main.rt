@@ -2,7 +2,7 @@
 // document 01's rehearsal script gives.
 use libc::STDOUT_FILENO;
 use number::Number;
-use number::Written;
+use writer::Written;
 
 // Document 01's rehearsal script: a setup of 11 bytes and eight events of 5.
 const REHEARSAL: [u8; 51] = [
@@ -100,7 +100,7 @@ fn show_bytes(bytes: &[u8]) {
 // A number written, the buffer then, and what it reads as.
 fn there_and_back(v: u64) {
     let mut buffer = [0xEEu8; 12];
-    let answer = number::write_number(v, &mut buffer, 0);
+    let answer = writer::write_number(v, &mut buffer, 0);
     let Written::Bytes(_) = answer else {
         text(b"not written\n");
         return;
@@ -126,7 +126,7 @@ fn numbers() {
 // What writing 128 at a place of a buffer of three bytes answers.
 fn show_room(at: usize) {
     let mut buffer = [0u8; 3];
-    let answer = number::write_number(128, &mut buffer, at);
+    let answer = writer::write_number(128, &mut buffer, at);
     match answer {
         Written::Bytes(n) => {
             text(b"written ");

@@ -159,7 +159,7 @@ fn put_word(word: &[u8], out: &mut [u8], at: usize) -> usize
     ensures { λ r. ⌜ r ≡ at + length (now (word .entry)) ⌝ }
     ensures { λ _. ⌜ now (out .exit) ≡ laid (now (out .entry)) at (now (word .entry)) ⌝ }
 {
-    number::write_bytes(word, out, at);
+    writer::write_bytes(word, out, at);
     at + word.len()
 }
 

@@ -1,7 +1,7 @@
 -- `text::put_word` lays the bytes where there is room for them. Assumes nothing.
 use mathlib.Core.Path.{refl, sym, _∙_}
 use denote.Ref.{now}
-use Rattle.number.specs.Laws.{long}
+use Rattle.writer.specs.Laws.{long}
 use borrow.Author.Needs.{needs}
 use Rattle.text.proofs.put_word.Statement.{statement}
 use Rattle.text.proofs.put_word.Tie as tie

@@ -1,10 +1,10 @@
--- `script::event_answer` answers `eventAnswer`: the plan's number, then 11. Assumes nothing.
+-- `writer::event_answer` answers `eventAnswer`: the plan's number, then 11. Assumes nothing.
 use mathlib.Core.Path.{sym, _∙_}
 use Rattle.clock.specs.Pick.{orElse-first, orElse-rest}
-use Rattle.script.specs.Write.{eventAnswer}
+use Rattle.writer.specs.Write.{eventAnswer}
 use borrow.Author.Needs.{needs}
-use Rattle.script.proofs.write.event_answer.Statement.{statement}
-use Rattle.script.proofs.write.event_answer.Tie as tie
+use Rattle.writer.proofs.event_answer.Statement.{statement}
+use Rattle.writer.proofs.event_answer.Tie as tie
 
 plan-answer-requires : tie.Need-plan-answer-requires
 plan-answer-requires c κs = search needs

@@ -1,17 +1,18 @@
--- `number::write_numbers` writes two rows where there is room for both, and else answers 25 and writes nothing. Assumes
+-- `writer::write_numbers` writes two rows where there is room for both, and else answers 25 and writes nothing. Assumes
 -- nothing.
 use Prim.Native.Nat.{ℕ, _+_}
 use mathlib.Core.List.{List, _++_}
 use mathlib.Core.Path.{_≡_, ap, ap₂, _∙_}
 use denote.Ref.{now}
 use lib.ListN.{length}
 use Rattle.number.specs.Number.{bytesOf, laid}
-use Rattle.number.specs.Laws.{rows-length, rows-laid, short, long}
-use Rattle.number.specs.declared.Written.the-variants as written
+use Rattle.number.specs.Laws.{rows-length}
+use Rattle.writer.specs.Laws.{rows-laid, short, long}
+use Rattle.writer.specs.declared.Written.the-variants as written
 use borrow.Author.Needs.{needs}
 use native.Mathlib.Omega.{arith}
-use Rattle.number.proofs.write_numbers.Statement.{statement}
-use Rattle.number.proofs.write_numbers.Tie as tie
+use Rattle.writer.proofs.write_numbers.Statement.{statement}
+use Rattle.writer.proofs.write_numbers.Tie as tie
 
 returns : tie.Need-returns
 returns c = short _ _ _ (omega arith)

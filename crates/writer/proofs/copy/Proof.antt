@@ -1,14 +1,15 @@
--- `number::copy` pastes the bytes: after i turns the first i of them stand there. The measure is what is left of them.
+-- `writer::copy` pastes the bytes: after i turns the first i of them stand there. The measure is what is left of them.
 -- Assumes nothing.
 use Prim.Native.Nat.{ℕ, _+_, _-_, _≤_, _<_}
 use mathlib.Core.Path.{_≡_, refl, sym, _∙_, ap}
 use mathlib.Core.List.{List}
 use lib.ListN.{length, take, set, getD, length-set}
 use Rattle.number.specs.Number.{laid}
-use Rattle.number.specs.Laws.{laid-none, laid-byte}
+use Rattle.number.specs.Laws.{laid-none}
+use Rattle.writer.specs.Laws.{laid-byte}
 use native.Mathlib.Omega.{arith}
-use Rattle.number.proofs.copy.Statement.{statement}
-use Rattle.number.proofs.copy.Tie as tie
+use Rattle.writer.proofs.copy.Statement.{statement}
+use Rattle.writer.proofs.copy.Tie as tie
 
 turn : (out₀ : List ℕ) (at : ℕ) (bytes : List ℕ) (i : ℕ) {out : List ℕ} → out ≡ laid out₀ at (take i bytes)
     → at + i < length out₀ → i < length bytes → set out (at + i) (getD bytes i 0) ≡ laid out₀ at (take (i + 1) bytes)

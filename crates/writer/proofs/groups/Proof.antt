@@ -1,9 +1,9 @@
--- `number::groups` makes the bytes of a number: what stands in the scratch array, with the groups of the rest behind it, is
+-- `writer::groups` makes the bytes of a number: what stands in the scratch array, with the groups of the rest behind it, is
 -- the number's bytes. The rest falls, and is its own measure. Assumes nothing.
-use Rattle.number.specs.Laws.{Grouping, grouping-start, grouping-room, grouping-next, grouping-end}
+use Rattle.writer.specs.Laws.{Grouping, grouping-start, grouping-room, grouping-next, grouping-end}
 use native.Mathlib.Omega.{arith}
-use Rattle.number.proofs.groups.Statement.{statement}
-use Rattle.number.proofs.groups.Tie as tie
+use Rattle.writer.proofs.groups.Statement.{statement}
+use Rattle.writer.proofs.groups.Tie as tie
 
 abbrev Inv-loop : tie.InvT-loop
 Inv-loop v bytes₀ count₀ rest₀ bytes count rest = Grouping v bytes count rest

@@ -1,13 +1,13 @@
--- `number::write_bytes` lays the bytes where there is room for them, and else answers 25 and writes nothing. Assumes nothing.
+-- `writer::write_bytes` lays the bytes where there is room for them, and else answers 25 and writes nothing. Assumes nothing.
 use mathlib.Core.Path.{ap, _∙_}
 use native.Mathlib.Omega.{arith}
 use denote.Ref.{now}
 use lib.Seq.{take-length}
 use Rattle.number.specs.Number.{laid}
-use Rattle.number.specs.Laws.{short, long}
+use Rattle.writer.specs.Laws.{short, long}
 use borrow.Author.Needs.{needs}
-use Rattle.number.proofs.write_bytes.Statement.{statement}
-use Rattle.number.proofs.write_bytes.Tie as tie
+use Rattle.writer.proofs.write_bytes.Statement.{statement}
+use Rattle.writer.proofs.write_bytes.Tie as tie
 
 returns : tie.Need-returns
 returns c = short _ _ _ (omega arith)

@@ -1,9 +1,10 @@
--- `script::write_event` writes an event that is not barred as its numbers, kind by kind, and else answers its number. Assumes
+-- `writer::write_event` writes an event that is not barred as its numbers, kind by kind, and else answers its number. Assumes
 -- nothing.
-use Rattle.script.specs.Write.{eventNumbers, refused-writes, accepted-writes}
+use Rattle.script.specs.Write.{eventNumbers}
+use Rattle.writer.specs.Laws.{refused-writes, accepted-writes}
 use borrow.Author.Needs.{needs}
-use Rattle.script.proofs.write.write_event.Statement.{statement}
-use Rattle.script.proofs.write.write_event.Tie as tie
+use Rattle.writer.proofs.write_event.Statement.{statement}
+use Rattle.writer.proofs.write_event.Tie as tie
 
 event-answer-requires : tie.Need-event-answer-requires
 event-answer-requires c κs = search needs

@@ -1,4 +1,4 @@
--- `number::put_numbers` lays the bytes of a row down: after i turns those of the first i numbers. The measure is what is left
+-- `writer::put_numbers` lays the bytes of a row down: after i turns those of the first i numbers. The measure is what is left
 -- of the row. Assumes nothing.
 use Prim.Native.Nat.{ℕ, _+_, _-_, _≤_, _<_}
 use mathlib.Core.List.{List}
@@ -6,11 +6,12 @@ use mathlib.Core.Path.{_≡_, refl, sym, _∙_, ap, ap₂}
 use native.Mathlib.Numerals.{add-one}
 use lib.ListN.{length, take, getD, length-append}
 use lib.Seq.{take-length}
 use Rattle.number.specs.Number.{numberBytes, bytesOf, laid}
-use Rattle.number.specs.Laws.{bytes-more, bytes-part, laid-none, laid-on, length-laid}
+use Rattle.number.specs.Laws.{laid-none, laid-on, length-laid}
+use Rattle.writer.specs.Laws.{bytes-more, bytes-part}
 use native.Mathlib.Omega.{arith}
-use Rattle.number.proofs.put_numbers.Statement.{statement}
-use Rattle.number.proofs.put_numbers.Tie as tie
+use Rattle.writer.proofs.put_numbers.Statement.{statement}
+use Rattle.writer.proofs.put_numbers.Tie as tie
 
 record Put (vs out₀ : List ℕ) (at i : ℕ) (out : List ℕ) (place : ℕ) : Type 0 where
   next : place ≡ at + length (bytesOf (take i vs))

@@ -1,12 +1,12 @@
--- `number::put_number` lays the bytes of a number down: the scratch array holds them, and `copy` copies them. Assumes
+-- `writer::put_number` lays the bytes of a number down: the scratch array holds them, and `copy` copies them. Assumes
 -- nothing.
 use mathlib.Core.Path.{_∙_, ap}
 use Rattle.number.specs.Number.{laid}
-use Rattle.number.specs.Laws.{grouped-count}
+use Rattle.writer.specs.Laws.{grouped-count}
 use borrow.Author.Needs.{needs}
 use native.Mathlib.Omega.{arith}
-use Rattle.number.proofs.put_number.Statement.{statement}
-use Rattle.number.proofs.put_number.Tie as tie
+use Rattle.writer.proofs.put_number.Statement.{statement}
+use Rattle.writer.proofs.put_number.Tie as tie
 
 groups-requires : tie.Need-groups-requires
 groups-requires c κs = search needs

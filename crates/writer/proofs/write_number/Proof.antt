@@ -1,13 +1,13 @@
--- `number::write_number` writes a number where there is room for it, and else answers 25 and writes nothing. Assumes nothing.
+-- `writer::write_number` writes a number where there is room for it, and else answers 25 and writes nothing. Assumes nothing.
 use mathlib.Core.Path.{ap, _∙_}
 use denote.Ref.{now}
 use Rattle.number.specs.Number.{numberBytes}
-use Rattle.number.specs.Laws.{grouped-count, short, long}
-use Rattle.number.specs.declared.Written.the-variants as written
+use Rattle.writer.specs.Laws.{grouped-count, short, long}
+use Rattle.writer.specs.declared.Written.the-variants as written
 use borrow.Author.Needs.{needs}
 use native.Mathlib.Omega.{arith}
-use Rattle.number.proofs.write_number.Statement.{statement}
-use Rattle.number.proofs.write_number.Tie as tie
+use Rattle.writer.proofs.write_number.Statement.{statement}
+use Rattle.writer.proofs.write_number.Tie as tie
 
 returns : tie.Need-returns
 returns c = short _ _ _ (omega arith)

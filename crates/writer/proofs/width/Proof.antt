@@ -1,4 +1,4 @@
--- `number::width` adds up the lengths: after i turns those of the first i numbers, each at most 10. The measure is what is
+-- `writer::width` adds up the lengths: after i turns those of the first i numbers, each at most 10. The measure is what is
 -- left of the numbers. Assumes nothing.
 use Prim.Native.Nat.{ℕ, _+_, _*_, _-_, _≤_, _<_}
 use mathlib.Core.List.{List}
@@ -7,11 +7,11 @@ use native.Mathlib.Numerals.{add-one}
 use denote.Ref.{now}
 use lib.ListN.{length, take, getD, length-append}
 use lib.Seq.{take-length}
 use Rattle.number.specs.Number.{numberBytes, bytesOf}
-use Rattle.number.specs.Laws.{grouped-count, bytes-more}
+use Rattle.writer.specs.Laws.{grouped-count, bytes-more}
 use native.Mathlib.Omega.{arith}
-use Rattle.number.proofs.width.Statement.{statement}
-use Rattle.number.proofs.width.Tie as tie
+use Rattle.writer.proofs.width.Statement.{statement}
+use Rattle.writer.proofs.width.Tie as tie
 
 turn : (vs : List ℕ) (i : ℕ) {sum count : ℕ} → sum ≡ length (bytesOf (take i vs))
     → count ≡ length (numberBytes (getD vs i 0)) → i < length vs → sum + count ≡ length (bytesOf (take (i + 1) vs))

@@ -1,9 +1,10 @@
--- `script::write_setup` writes a setup that passes as its numbers, and else answers its number. Assumes nothing.
+-- `writer::write_setup` writes a setup that passes as its numbers, and else answers its number. Assumes nothing.
 use mathlib.Core.Path.{refl}
-use Rattle.script.specs.Write.{setupNumbers, refused-writes, accepted-writes}
+use Rattle.script.specs.Write.{setupNumbers}
+use Rattle.writer.specs.Laws.{refused-writes, accepted-writes}
 use borrow.Author.Needs.{needs}
-use Rattle.script.proofs.write.write_setup.Statement.{statement}
-use Rattle.script.proofs.write.write_setup.Tie as tie
+use Rattle.writer.proofs.write_setup.Statement.{statement}
+use Rattle.writer.proofs.write_setup.Tie as tie
 
 answer-requires : tie.Need-answer-requires
 answer-requires c κs = search needs
