@@ -50,7 +50,7 @@ fn word(words: &[u64], at: usize) -> u64
 }
 
 // The message of three words.
-fn unpack(key: u64, signers: u64, sent: u64) -> Message
+pub fn unpack(key: u64, signers: u64, sent: u64) -> Message
     ensures { λ r. ⌜ r ≡ flight.messageOf key signers sent ⌝ }
 {
     Message {

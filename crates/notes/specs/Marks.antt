@@ -14,7 +14,7 @@ use Rattle.clock.specs.Pick.{pick}
 use Rattle.clock.specs.Tests.{both}
 use Rattle.flight.specs.declared.Names.{Names}
 use Rattle.flight.specs.declared.Message.{Message}
-use Rattle.flight.specs.Message.{named, sameNames, unpacked, messageOf, messageAt, decode, holds, noMessage, indexOf, nearOr, twins}
+use Rattle.flight.specs.Message.{named, namesOf, sameNames, unpacked, messageOf, messageAt, decode, holds, noMessage, indexOf, nearOr, twins}
 use Rattle.flight.specs.Members.{all-at, none-indexOf, indexOf-named}
 use Rattle.flight.specs.Coding.{length-decode, decode-at}
 use Rattle.flight.specs.Keys.{holds-true, named-key, other-key}
@@ -58,11 +58,11 @@ near-found near x ms = go (ltb near (length ms)) refl (named x (getD ms near noM
     go false l false here = refl
 
 -- what is found of a word, whatever place is looked at first
-pub word-found : (i : ℕ) (l : List ℕ) (near key r : ℕ) → 3 * i ≤ length l → r ≡ pick (holds i l) (nearOr near (unpacked key) (decode i l)) i
-    → ltb r i ≡ ltb (indexOf (unpacked key) (decode i l)) i
-word-found i l near key r h e =
+pub word-found : (i : ℕ) (l : List ℕ) (near key r : ℕ) (m : Message) → m ≡ messageOf key 0 0 → 3 * i ≤ length l
+    → r ≡ pick (holds i l) (nearOr near (namesOf m) (decode i l)) i → ltb r i ≡ ltb (indexOf (unpacked key) (decode i l)) i
+word-found i l near key r m same h e =
     let room = holds-true i l (omega arith) in
-    let found : r ≡ nearOr near (unpacked key) (decode i l) = e ∙ rw room refl in
+    let found : r ≡ nearOr near (unpacked key) (decode i l) = e ∙ rw (room, same) refl in
     rw found (rw (length-decode i l) at (near-found near (unpacked key) (decode i l)))
 
 pub marked-none : (l marks : List ℕ) → Marked 0 l marks

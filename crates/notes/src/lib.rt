@@ -117,11 +117,12 @@ fn again(words: &[u64], i: u64, key: u64, mark: u8) -> bool
     if mark == 0 {
         return false;
     }
+    let m = flight::unpack(key, 0, 0);
     let names = Names {
-        sender: key / 16 % 16,
-        recipient: key % 16,
-        round: key / 512,
-        kind: key / 256 % 2,
+        sender: m.sender,
+        recipient: m.recipient,
+        round: m.round,
+        kind: m.kind,
     };
     flight::find(words, i, names, &words[..0]) < i
 }
