@@ -2,6 +2,7 @@
 // delivery bound, is added to a moment alone; a period, a step or an increment to a reading alone; and the one
 // difference of readings is signed, so that it fits neither. Both count whole microseconds.
 ghost use mathlib.Core.Path.{_≡_};
+ghost use lib.IntN.{natAbs};
 ghost use Rattle.clock.specs.Time.{later, mark, leadOf};
 ghost use Rattle.clock.specs.Tests as test;
 ghost use Rattle.clock.specs.Drift.{inDrift};
@@ -123,4 +124,14 @@ pub fn in_drift(drift: u64, span: u64, increment: u64) -> bool
     }
     let s = PARTS + drift;
     (PARTS * span <= s * increment) & (PARTS * increment <= s * span)
+}
+
+// How far a lead is from 0: a number without its sign.
+pub fn magnitude(x: i64) -> u64
+    ensures { λ r. ⌜ r ≡ natAbs x ⌝ }
+{
+    if x < 0 {
+        return (-1 - x) as u64 + 1;
+    }
+    x as u64
 }

@@ -121,9 +121,9 @@ fn add_reading(value: u64, round: u64, out: &mut [u8], place: usize) -> usize {
 // `lead` and a number of either sign.
 fn add_lead(lead: i64, out: &mut [u8], place: usize) -> usize {
     if lead < 0 {
-        return add_told(b"lead -", text::magnitude(lead), out, place);
+        return add_told(b"lead -", clock::magnitude(lead), out, place);
     }
-    add_told(b"lead ", text::magnitude(lead), out, place)
+    add_told(b"lead ", clock::magnitude(lead), out, place)
 }
 
 // The values of a question; nothing for an event.

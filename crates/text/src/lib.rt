@@ -2,7 +2,6 @@
 // buffer has no room for the longest line, nothing is written and the place is as it was.
 ghost use mathlib.Core.Path.{_≡_};
 ghost use Prim.Native.Nat.{_+_, _<_, _≤_};
-ghost use lib.IntN.{natAbs};
 ghost use lib.ListN.{length};
 ghost use Rattle.clock.specs.Pick.{pick};
 ghost use Rattle.number.specs.Number.{laid};
@@ -14,16 +13,6 @@ use line::Line;
 
 // Room for the longest line.
 pub const LONGEST: usize = 320;
-
-// A number without its sign.
-pub fn magnitude(x: i64) -> u64
-    ensures { λ r. ⌜ r ≡ natAbs x ⌝ }
-{
-    if x < 0 {
-        return (-1 - x) as u64 + 1;
-    }
-    x as u64
-}
 
 // How many decimal digits a number has. Up to five are found by comparing alone.
 fn places(x: u64) -> usize

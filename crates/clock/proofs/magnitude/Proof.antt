@@ -1,4 +1,4 @@
--- `text::magnitude` takes the sign off every number: one below zero is -(n + 1) for an n that fits. Assumes nothing.
+-- `clock::magnitude` takes the sign off every number: one below zero is -(n + 1) for an n that fits. Assumes nothing.
 use Prim.Native.Nat.{ℕ, suc, _+_, _-_, _<_, _^_}
 use mathlib.Core.Bool.{Bool, true, false, cond}
 use mathlib.Core.Path.{_≡_, sym, subst, ap, _∙_}
@@ -11,8 +11,8 @@ use lib.Signed.{ltZ, nonNeg, natAbs-le}
 use mir.Syntax.{w64}
 use mir.Val.{Fits, SFits, toZ, ofZ}
 use mir.ValLaws.{toZ-pos, toZ-ofZ}
-use Rattle.text.proofs.magnitude.Statement.{statement}
-use Rattle.text.proofs.magnitude.Tie as tie
+use Rattle.clock.proofs.magnitude.Statement.{statement}
+use Rattle.clock.proofs.magnitude.Tie as tie
 
 -- -1 less a number below zero is a number that is not, and fits
 Left : ℤ → Type 0
