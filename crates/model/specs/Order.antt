@@ -1,4 +1,4 @@
--- The order of the refusals 12 to 19 as facts: a number is answered where its test holds and the tests before it in document
+-- The order of the refusals 10 to 19 as facts: a number is answered where its test holds and the tests before it in document
 -- 01's list fail, whatever the tests behind it say. Each is the table computed as far as that test.
 use Prim.Native.Nat.{ℕ, _+_}
 use mathlib.Core.Bool.{true, false, _||_, not}
@@ -10,10 +10,31 @@ use Rattle.clock.specs.Limits.{maxTime}
 use Rattle.clock.specs.Pick.{refuse}
 use Rattle.mask.specs.Mask.{has}
 use Rattle.flight.specs.Message.{indexOf, overdue}
+use Rattle.event.specs.declared.Event.{Event}
 use Rattle.event.specs.declared.Event.the-variants.{Advance, Deliver, Send}
+use Rattle.event.specs.Event.{barred}
 use Rattle.model.specs.Run.{Run}
-use Rattle.model.specs.Record.{someStation}
-use Rattle.model.specs.Event.{namesOf, effect, exceedsAt, driftsAt, passesAt, unsigned, full, eventRules}
+use Rattle.model.specs.Record.{someStation, badRecord}
+use Rattle.model.specs.Event.{namesOf, effect, exceedsAt, driftsAt, passesAt, unsigned, full, eventRules, stepAnswer, eventAnswer}
+
+-- ---- any event: 10, 11
+
+module _ (r : Run) (e : Event) (increments : List ℕ) where
+  -- the record is not valid
+  pub ten : badRecord r ≡ true → eventAnswer r e increments ≡ 10
+  unfolding eventAnswer
+  ten b = rw b refl
+
+  module _ (not10 : badRecord r ≡ false) where
+    -- the event is barred
+    pub eleven : barred (r .plan .stations) (r .plan .faulty) e increments ≡ true → eventAnswer r e increments ≡ 11
+    unfolding eventAnswer stepAnswer
+    eleven b = rw (not10, b) refl
+
+    -- the event's own rules are asked behind them
+    pub rules-last : barred (r .plan .stations) (r .plan .faulty) e increments ≡ false → eventAnswer r e increments ≡ eventRules r e increments
+    unfolding eventAnswer stepAnswer
+    rules-last b = rw (not10, b) refl
 
 -- ---- advance: 12, 13, 14, 15, 19
 
