@@ -1,6 +1,8 @@
 // Real time and clock readings, kept apart: a moment and a reading are two types. A span of real time, as the
 // delivery bound, is added to a moment alone; a period, a step or an increment to a reading alone; and the one
 // difference of readings is signed, so that it fits neither. Both count whole microseconds.
+#![tactic(auto)]
+
 ghost use Rattle.std.specs.Prelude.{◌≡◌, nat_abs};
 ghost use Rattle.clock.specs.Time.{later, mark, lead_of};
 ghost use Rattle.clock.specs.Tests as test;

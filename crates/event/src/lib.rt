@@ -1,4 +1,6 @@
 // The three events of a run, and rule 11: which events are barred whatever the run's state is.
+#![tactic(auto)]
+
 ghost use Rattle.std.specs.Prelude.{◌≡◌, length};
 ghost use Rattle.clock.specs.Pick.{pick};
 ghost use Rattle.clock.specs.Tests.{some_to};

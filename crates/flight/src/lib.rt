@@ -1,5 +1,7 @@
 // The messages on their way, in words that the caller lends: three words to a message, the first its four names in one
 // number, then the signers, then the time sent. A flight of `count` messages is the first `count` of the words' messages.
+#![tactic(auto)]
+
 ghost use Rattle.std.specs.Prelude.{◌≡◌, true, ◌++◌, ◌+◌, ◌*◌, ◌%◌, ◌≤◌, ◌<◌, length, get_or};
 ghost use Rattle.clock.specs.Limits.{max_stations};
 ghost use Rattle.clock.specs.Pick.{pick};

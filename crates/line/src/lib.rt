@@ -1,5 +1,7 @@
 // The run of a line: its record and its rules, and the questions that may be asked of it. The stations lie in the run by
 // value, the messages in flight in words that the caller lends.
+#![tactic(auto)]
+
 ghost use Rattle.std.specs.Prelude.{◌≡◌, ◌≤◌, [], length};
 ghost use Rattle.setup.specs.Laws.{Planned};
 ghost use Rattle.flight.specs.Message.{decode, some_of};

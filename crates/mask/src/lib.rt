@@ -1,4 +1,6 @@
 // A set of stations as a number: station i is in it where bit i is set.
+#![tactic(auto)]
+
 ghost use Rattle.std.specs.Prelude.{◌≡◌};
 ghost use Rattle.mask.specs.Mask as set;
 

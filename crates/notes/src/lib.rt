@@ -1,5 +1,7 @@
 // What one pass over the messages on their way notes: where each lies, whether one is overdue, and whether two agree in all
 // four names.
+#![tactic(auto)]
+
 ghost use Rattle.std.specs.Prelude.{◌≡◌, ◌&&◌, not, ◌*◌, ◌-◌, ◌≤◌, min, ltb, eqb, length, set};
 ghost use Rattle.clock.specs.Pick.{pick};
 ghost use Rattle.flight.specs.Message as flight;

@@ -1,5 +1,7 @@
 // A number read from groups of seven bits, lowest group first, the top bit of a byte set where another follows, in the
 // fewest bytes.
+#![tactic(auto)]
+
 ghost use Rattle.std.specs.Prelude.{◌≡◌, ◌≤◌, ◌<◌, ◌+◌, ◌*◌, ◌^◌};
 ghost use Rattle.number.specs.Number as form;
 

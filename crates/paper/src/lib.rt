@@ -1,4 +1,6 @@
 // What is printed on standard output: bytes that others made; and an answer on a record, with the record as rows of numbers.
+#![tactic(auto)]
+
 use libc::STDOUT_FILENO;
 use writer::Written;
 

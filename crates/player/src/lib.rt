@@ -1,5 +1,7 @@
 // Plays a script and prints what each station does on standard output: the setup's answer, then a line for each event. What is
 // printed is made in `rehearsal` and `run`; here it is handed on in large pieces.
+#![tactic(auto)]
+
 use run::Part;
 
 // Plays an opened script part by part and prints each. A part holds one event at least, so there are no more than bytes.

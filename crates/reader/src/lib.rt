@@ -1,5 +1,7 @@
 // The script reader: the lent bytes and its place, kept together. Its methods are thin; the work is done by the readers
 // that take slice and place. Any place is answered, one past the bytes too.
+#![tactic(auto)]
+
 ghost use Rattle.std.specs.Prelude.{◌≡◌};
 ghost use Rattle.reader.specs.Reader as form;
 

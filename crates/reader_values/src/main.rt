@@ -1,5 +1,7 @@
 // Shows what a reader answers, where it then stands and what is left: on document 01's rehearsal script and on refused
 // ones.
+#![tactic(auto)]
+
 use libc::STDOUT_FILENO;
 
 // Document 01's rehearsal script: a setup of 11 bytes and eight events of 5.

@@ -1,4 +1,6 @@
 // One event or question on a record that is read for it, printed on standard output: the answer, and the record then.
+#![tactic(auto)]
+
 ghost use Rattle.std.specs.Prelude.{◌≤◌};
 
 use clock::{MAX_FLIGHT, Moment, Reading};

@@ -1,5 +1,7 @@
 // Opens a script: its setup is read and answered, and the first line written. What `rehearse` prints of a whole script, and the
 // proof that it is what `open` and the parts of `run` write, are in `specs/`.
+#![tactic(auto)]
+
 ghost use Rattle.std.specs.Prelude.{◌≡◌};
 ghost use Rattle.rehearsal.specs.Opening as begin;
 

@@ -1,4 +1,6 @@
 // Plays a script from standard input.
+#![tactic(auto)]
+
 use libc::STDIN_FILENO;
 
 fn main() {

@@ -1,5 +1,7 @@
 // Plays scripts and single records from standard input, one behind the other, each after its kind (0 for a script, 1 for a
 // record) and its length (four bytes, the lowest first).
+#![tactic(auto)]
+
 use libc::STDIN_FILENO;
 
 // What comes next: its kind, and its length, or one that is too long where there is no more.

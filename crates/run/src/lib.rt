@@ -1,5 +1,7 @@
 // The three events of a run: advance, deliver and faulty send. `play` checks the record first; the step behind it needs a
 // valid one and never tests it again, for whoever plays many.
+#![tactic(auto)]
+
 ghost use Rattle.std.specs.Prelude.{◌≡◌, [], ◌++◌, false, ◌&&◌, not, ◌+◌, ◌*◌, ◌^◌, ◌≤◌, ◌<◌, eqb, length};
 ghost use Rattle.clock.specs.Limits.{max_flight};
 ghost use Rattle.clock.specs.Pick.{pick};

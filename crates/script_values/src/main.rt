@@ -1,5 +1,7 @@
 // Shows how numbers are written and read back, what spoilt numbers and unknown kinds are answered, and what every cut of
 // document 01's rehearsal script gives.
+#![tactic(auto)]
+
 use libc::STDOUT_FILENO;
 use number::Number;
 use writer::Written;

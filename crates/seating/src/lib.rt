@@ -1,5 +1,7 @@
 // Stations in one table that the caller lends: one is taken out, steps by value and is put back, or all of them are, into the
 // places of a run that goes by value.
+#![tactic(auto)]
+
 ghost use Rattle.std.specs.Prelude.{◌≡◌, ◌<◌, length, get_or, set};
 ghost use Rattle.line.specs.Run.{no_station};
 ghost use Rattle.line.specs.Fresh.{no_stations};

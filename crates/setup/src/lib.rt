@@ -1,5 +1,7 @@
 // The setup check: a planned line is answered with document 01's number, 0 where it passes, 1 to 8 where it is
 // refused, the checks in exactly that order. Any numbers and any number of first readings are answered.
+#![tactic(auto)]
+
 ghost use Rattle.std.specs.Prelude.{◌≡◌, length};
 ghost use Rattle.clock.specs.Tests.{some_to};
 ghost use Rattle.setup.specs.Setup as rule;

@@ -1,5 +1,7 @@
 // Shows what setups on each side of document 01's rules are answered: a line for each, what differs from the base and
 // the answer.
+#![tactic(auto)]
+
 use libc::STDOUT_FILENO;
 use setup::Plan;
 

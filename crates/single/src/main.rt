@@ -1,4 +1,6 @@
 // Plays one event, or asks one question, on a record that is read from standard input.
+#![tactic(auto)]
+
 use libc::STDIN_FILENO;
 
 fn main() {

@@ -1,5 +1,7 @@
 // The rules of one station, by value: what it does when its clock lands on a mark, when it hears signatures, and when it
 // holds f + 1 of them. A board on the floor calls `hear` and `advance`; both check its own record first.
+#![tactic(auto)]
+
 ghost use Rattle.std.specs.Prelude.{◌≡◌, ◌||◌};
 ghost use Rattle.clock.specs.Pick.{pick};
 ghost use Rattle.station.specs.Station as rule;

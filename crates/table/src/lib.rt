@@ -1,5 +1,7 @@
 // A run whose stations lie in one table that the caller lends: a fresh run, an event and a question on it. Each takes the
 // stations out, calls the run that goes by value, and puts them back.
+#![tactic(auto)]
+
 ghost use Rattle.std.specs.Prelude.{◌≡◌};
 ghost use Rattle.seating.specs.Seating.{line_of};
 ghost use Rattle.table.specs.Table as lent;

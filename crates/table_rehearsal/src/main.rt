@@ -1,4 +1,6 @@
 // Plays document 01's rehearsal on a table of stations that is lent for the setup and for each event, and prints its lines.
+#![tactic(auto)]
+
 use clock::Moment;
 use event::Event;
 use line::Line;

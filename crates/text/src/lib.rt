@@ -1,5 +1,7 @@
 // The lines of a rehearsal as bytes, laid into a lent buffer. Each function answers the place behind what it wrote; where the
 // buffer has no room for the longest line, nothing is written and the place is as it was.
+#![tactic(auto)]
+
 ghost use Rattle.std.specs.Prelude.{◌≡◌, ◌+◌, ◌<◌, ◌≤◌, length, []};
 ghost use Rattle.clock.specs.Pick.{pick};
 ghost use Rattle.number.specs.Number.{laid};

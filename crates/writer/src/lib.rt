@@ -1,5 +1,7 @@
 // What writes into a lent buffer: bytes as they are, numbers in groups of seven bits, and the setups and events of a script.
 // Refused, nothing is written.
+#![tactic(auto)]
+
 ghost use Rattle.std.specs.Prelude.{◌≡◌, ◌≤◌, ◌+◌, ◌++◌, length, take};
 ghost use Rattle.setup.specs.Setup.{setup_answer};
 ghost use Rattle.number.specs.Number as number;

@@ -11,8 +11,7 @@ use lib.Signed.{lt_z, non_neg, nat_abs-le}
 use mir.Syntax.{w64}
 use mir.Val.{Fits, SFits, to_z, of_z}
 use mir.ValLaws.{to_z_pos, to_z-of_z}
-use Rattle.clock.proofs.magnitude.Statement.{statement}
-use Rattle.clock.proofs.magnitude.Tie as tie
+use Rattle.clock.proofs.magnitude.Goals as goal
 
 -- -1 less a number below zero is a number that is not, and fits
 Left : ℤ → Type 0
@@ -70,24 +69,20 @@ fits-plain x f h = (
   record { fits = lt_of_le_of_lt (nat_abs-le (to_z w64 (of_z w64 x)) (read x f).sfits) (lit< tt) },
 )
 
-sub-result : tie.Need-overflow-sub-result
-sub-result c = fits_sub _ (left _ c.if1.true (read _ c.before.ranges.x))
+pub overflow_sub-result : goal.overflow_sub-result
+overflow_sub-result c = fits_sub _ (left _ c.if-x-lt0.true (read _ c.ranges.x))
 
-cast-result : tie.Need-overflow-cast-result
-cast-result c = fits-cast _ (left _ c.if1.true (read _ c.before.ranges.x))
+pub overflow_cast-result : goal.overflow_cast-result
+overflow_cast-result c = fits-cast _ (left _ c.if-x-lt0.true (read _ c.ranges.x))
 
-add-result : tie.Need-overflow-add-result
-add-result c = fits-add _ (left _ c.if1.true (read _ c.before.ranges.x))
+pub overflow_add-result : goal.overflow_add-result
+overflow_add-result c = fits-add _ (left _ c.if-x-lt0.true (read _ c.ranges.x))
 
-returns : tie.Need-returns
-returns c = same-below _ (left _ c.if1.true (read _ c.before.ranges.x)) ∙ ap nat_abs (to_z-of_z w64 _ c.before.ranges.x)
+pub returns-then-x-lt0 : goal.returns-then-x-lt0
+returns-then-x-lt0 c = same-below _ (left _ c.if-x-lt0.true (read _ c.ranges.x)) ∙ ap nat_abs (to_z-of_z w64 _ c.ranges.x)
 
-cast-result-2 : tie.Need-overflow-cast-result-2
-cast-result-2 c = fits-plain _ c.before.ranges.x c.if1.false
+pub overflow_cast-result-2 : goal.overflow_cast-result-2
+overflow_cast-result-2 c = fits-plain _ c.ranges.x c.if-x-lt0.false
 
-returns-2 : tie.Need-returns-2
-returns-2 c = ap nat_abs (to_z-of_z w64 _ c.before.ranges.x)
-
-pub magnitude-spec : {M : Type 1} → statement M
-magnitude-spec =
-    tie.close (tie.spec sub-result cast-result add-result returns cast-result-2 returns-2)
+pub returns : goal.returns
+returns c = ap nat_abs (to_z-of_z w64 _ c.ranges.x)

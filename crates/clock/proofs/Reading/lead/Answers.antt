@@ -3,7 +3,6 @@
 use Prim.Native.Nat.{ℕ, zero, suc, ◌≤◌, ◌<◌, ◌^◌, ◌-◌}
 use mathlib.Core.Bool.{Bool, true, false, cond}
 use mathlib.Core.Path.{◌≡◌, ap₂, ◌∙◌}
-use borrow.Author.Rules.{rules}
 use borrow.Author.Tests.{le-leb, lt-leb}
 use native.Mathlib.Omega.{arith}
 use lib.Dec.{ltb}
@@ -14,8 +13,7 @@ use mir.ValLaws.{to_z_pos, to_z-of_z}
 use mir.Syntax.{w64}
 use Rattle.clock.specs.Limits.{max_reading}
 use Rattle.clock.specs.Time.{lead_of}
-use Rattle.clock.proofs.Reading.lead.Statement.{statement}
-use Rattle.clock.proofs.Reading.lead.Tie as tie
+use Rattle.clock.proofs.Reading.lead.Goals as goal
 
 -- the difference of two readings within the limit, in magnitude
 small : (a b : ℕ) → a ≤ max_reading → b ≤ max_reading → mag (pos a -ℤ pos b) < 2 ^ 63
@@ -37,27 +35,18 @@ module _ (a b : ℕ) (ha : a ≤ max_reading) (hb : b ≤ max_reading) where
   exact : to_z w64 (of_z w64 (to_z w64 a -ℤ to_z w64 b)) ≡ pos a -ℤ pos b
   exact = to_z-of_z w64 (to_z w64 a -ℤ to_z w64 b) fits ∙ words
 
-returns : tie.Need-returns
+pub returns-then-a-gt-MAX_READING : goal.returns-then-a-gt-MAX_READING
 unfolding lead_of
-returns c = simp (lt-leb _ _ c.if1.true)
+returns-then-a-gt-MAX_READING c = simp (lt-leb _ _ c.if-a-gt-MAX_READING.true)
 
-returns-2 : tie.Need-returns-2
+pub returns-then-b-gt-MAX_READING : goal.returns-then-b-gt-MAX_READING
 unfolding lead_of
-returns-2 c = simp (le-leb _ _ c.before.if1.false, lt-leb _ _ c.if2.true)
+returns-then-b-gt-MAX_READING c = simp (le-leb _ _ c.if-a-gt-MAX_READING.false, lt-leb _ _ c.if-b-gt-MAX_READING.true)
 
-cast-result : tie.Need-overflow-cast-result
-cast-result c = search rules
+pub overflow_sub-result : goal.overflow_sub-result
+overflow_sub-result c = fits _ _ c.if-a-gt-MAX_READING.false c.if-b-gt-MAX_READING.false
 
-cast-result-2 : tie.Need-overflow-cast-result-2
-cast-result-2 c = search rules
-
-sub-result : tie.Need-overflow-sub-result
-sub-result c = fits _ _ c.before.if1.false c.if2.false
-
-returns-3 : tie.Need-returns-3
+pub returns : goal.returns
 unfolding lead_of
-returns-3 c = simp (le-leb _ _ c.before.if1.false, le-leb _ _ c.if2.false)
-    (exact _ _ c.before.if1.false c.if2.false)
-
-pub lead-spec : {M : Type 1} → statement M
-lead-spec = tie.close (tie.spec returns returns-2 cast-result cast-result-2 sub-result returns-3)
+returns c = simp (le-leb _ _ c.if-a-gt-MAX_READING.false, le-leb _ _ c.if-b-gt-MAX_READING.false)
+    (exact _ _ c.if-a-gt-MAX_READING.false c.if-b-gt-MAX_READING.false)

@@ -7,10 +7,8 @@ use borrow.Author.Tests.{lt-ltb, le-ltb, eq-eqb, ne_eqb}
 use lib.Dec.{ltb, eqb}
 use lib.Pow.{pow_mono, pow_pos}
 use Rattle.mask.specs.Mask.{below}
-use borrow.Author.Rules.{rules}
 use native.Mathlib.Omega.{arith}
-use Rattle.mask.proofs.below.Statement.{statement}
-use Rattle.mask.proofs.below.Tie as tie
+use Rattle.mask.proofs.below.Goals as goal
 
 quotient : (m n : ℕ) → eqb (m / 2 ^ n) 0 ≡ ltb m (2 ^ n)
 quotient m n = elim (dec_lt m (2 ^ n)) [
@@ -21,16 +19,10 @@ quotient m n = elim (dec_lt m (2 ^ n)) [
     small : m / 2 ^ n ≡ 0 → m < 2 ^ n
     small e = omega (arith, (div-lt_iff_lt-mul {k = 2 ^ n} {x = m} {y = 1} (pow_pos n)).0 (omega arith))
 
-returns : tie.Need-returns
+pub returns-then-n-ge64 : goal.returns-then-n-ge64
 unfolding below
-returns c = sym (lt-ltb _ _ (lt_of_lt_of_le c.before.ranges.mask.fits (pow_mono c.if1.true)))
+returns-then-n-ge64 c = sym (lt-ltb _ _ (lt_of_lt_of_le c.ranges.mask.fits (pow_mono c.if-n-ge64.true)))
 
-shr-result : tie.Need-overflow-shr-result
-shr-result c = search rules
-
-returns-2 : tie.Need-returns-2
+pub returns : goal.returns
 unfolding below
-returns-2 c = quotient c.before.args.mask c.before.args.n
-
-pub below-spec : {M : Type 1} → statement M
-below-spec = tie.close (tie.spec returns shr-result returns-2)
+returns c = quotient c.args.mask c.args.n
