@@ -42,11 +42,11 @@ pub const PARTS: u64 = 10_000;
 pub const LAST: u64 = 18_446_744_073_709_551_615;
 
 // A moment of real time: microseconds since the run began.
-#[derive(Drop)]
+#[derive(Clone, Copy)]
 pub struct Moment(pub u64);
 
 // What a station's clock shows.
-#[derive(Drop)]
+#[derive(Clone, Copy)]
 pub struct Reading(pub u64);
 
 impl Moment {

@@ -7,7 +7,7 @@ ghost use Rattle.clock.specs.Tests.{some_to};
 ghost use Rattle.event.specs.Event as rule;
 
 // An event. An advance's increments, one per station, are lent beside it.
-#[derive(Drop)]
+#[derive(Clone, Copy)]
 pub enum Event {
     // By d.
     Advance(u64),

@@ -94,7 +94,7 @@ twins-without i ms l e = apart-twins (without i ms) far
         go false ea false eb = old a b c (omega (arith, length_without i ms))
 
 -- where messages without twins are added whose names no message has
-pub twins-append : {ms : List Message} (more : List Message) → twins ms ≡ false → twins more ≡ false
+pub twins-append : (more : List Message) {ms : List Message} → twins ms ≡ false → twins more ≡ false
     → All (λ a. All (λ b. same_names a b ≡ false) more) ms → twins (ms ++ more) ≡ false
 unfolding twins
 twins-append more e f no_member = f

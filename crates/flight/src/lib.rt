@@ -12,7 +12,7 @@ ghost use Rattle.flight.specs.Keys.{Packs};
 use clock::{MAX_STATIONS, Moment};
 
 // What names a message.
-#[derive(Drop)]
+#[derive(Clone, Copy)]
 pub struct Names {
     pub sender: u64,
     pub recipient: u64,
@@ -21,7 +21,7 @@ pub struct Names {
 }
 
 // A message on its way: kind 0 is a ready, kind 1 a relay; the signers are a mask of stations.
-#[derive(Drop)]
+#[derive(Clone, Copy)]
 pub struct Message {
     pub sender: u64,
     pub recipient: u64,
@@ -32,7 +32,7 @@ pub struct Message {
 }
 
 // What a change of the flight comes to: whether it was made, and how many messages there are then.
-#[derive(Drop)]
+#[derive(Clone, Copy)]
 pub struct Answer {
     pub done: bool,
     pub count: u64,

@@ -17,7 +17,7 @@ use setup::Plan;
 use station::Station;
 
 // A run: its plan, its time, the stations in the first `length` places of the table, and how many messages are in flight.
-#[derive(Drop)]
+#[derive(Clone, Copy)]
 pub struct Line {
     pub plan: Plan,
     pub time: Moment,
@@ -29,7 +29,7 @@ pub struct Line {
 // ---- a fresh run
 
 // The answer to a setup: 0 with the run at its beginning, or 1 to 8 and no run.
-#[derive(Drop)]
+#[derive(Clone, Copy)]
 pub struct Begun {
     pub answer: u64,
     pub line: Line,
@@ -151,7 +151,7 @@ fn bad_faulty(s: Station) -> bool
 }
 
 // The answer to a question about a station: 0 with its reading and round, or the number that refuses it.
-#[derive(Drop)]
+#[derive(Clone, Copy)]
 pub struct Shown {
     pub answer: u64,
     pub reading: Reading,
@@ -159,14 +159,14 @@ pub struct Shown {
 }
 
 // The answer to a question about two stations: 0 with the lead, or the number that refuses it.
-#[derive(Drop)]
+#[derive(Clone, Copy)]
 pub struct Led {
     pub answer: u64,
     pub lead: i64,
 }
 
 // The answer to the question how many messages are in flight.
-#[derive(Drop)]
+#[derive(Clone, Copy)]
 pub struct InFlight {
     pub answer: u64,
     pub count: u64,

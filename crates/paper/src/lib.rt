@@ -99,7 +99,7 @@ fn add_rows(
 // ---- an answer
 
 // What is answered to an event (kinds 1 to 3) or a question: the reading (11), the lead (12), the number in flight (13).
-#[derive(Drop)]
+#[derive(Clone, Copy)]
 pub struct Told {
     pub kind: u64,
     pub answer: u64,
@@ -109,7 +109,7 @@ pub struct Told {
 }
 
 // Where rows of numbers begin, and how many there are.
-#[derive(Drop)]
+#[derive(Clone, Copy)]
 pub struct Rows {
     pub start: usize,
     pub count: usize,

@@ -9,14 +9,14 @@ use number::{Number, read_number};
 use script::{EventRead, SetupRead, read_event, read_setup};
 
 // The lent bytes, and the place of the next one to be read.
-#[derive(Drop)]
+#[derive(Clone, Copy)]
 pub struct Reader<'a> {
     pub bytes: &'a [u8],
     pub place: usize,
 }
 
 // A number that was read whole, or the refusal: 21, 22 or 23. The place is the one behind it, or the script's end.
-#[derive(Drop)]
+#[derive(Clone, Copy)]
 pub struct NumberRead {
     pub answer: u64,
     pub value: u64,

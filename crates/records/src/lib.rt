@@ -114,7 +114,7 @@ fn increments(sheet: &[u64]) -> usize
 // ---- reading
 
 // Where the reading stands: 0, or the number that stops it, and the place.
-#[derive(Drop)]
+#[derive(Clone, Copy)]
 struct Place {
     answer: u64,
     next: usize,

@@ -5,7 +5,7 @@
 use libc::STDIN_FILENO;
 
 // What comes next: its kind, and its length, or one that is too long where there is no more.
-#[derive(Drop)]
+#[derive(Clone, Copy)]
 struct Piece {
     kind: u8,
     count: usize,

@@ -31,7 +31,7 @@ use setup::Plan;
 use station::{Outcome, Station};
 
 // What an event comes to: 0, or the number that refuses it, and the run then.
-#[derive(Drop)]
+#[derive(Clone, Copy)]
 pub struct Played {
     pub answer: u64,
     pub line: Line,
@@ -116,7 +116,7 @@ fn tell(
 
 // What an event comes to at the station that hears it: 0, or the number that refuses it, the station then, and how many
 // messages there are.
-#[derive(Drop)]
+#[derive(Clone, Copy)]
 struct Heard {
     answer: u64,
     station: Station,
@@ -383,7 +383,7 @@ fn seat(mut l: Line, i: u64, h: Heard) -> Played
 // ---- advancing
 
 // Which of 12, 13 and 14 an increment meets; 14 only where it does not meet 12.
-#[derive(Drop)]
+#[derive(Clone, Copy)]
 struct Meets {
     exceeds: bool,
     drifts: bool,
@@ -429,7 +429,7 @@ fn meets_some(l: Line, d: u64, increments: &[u64]) -> Meets
 
 // The stations after an advance, and how many messages they send: each clock goes on, and a station signs where that brings
 // it up to the mark.
-#[derive(Drop)]
+#[derive(Clone, Copy)]
 struct Turns {
     stations: [Station; 12],
     sent: u64,

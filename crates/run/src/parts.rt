@@ -11,7 +11,7 @@ use station::Station;
 
 // How far a script is played: 0, or 10 for the record, or 21 to 24 where the script can't be read on; the run, the place of
 // the next event, the number of the last one played and the place behind its line.
-#[derive(Drop)]
+#[derive(Clone, Copy)]
 pub struct Part {
     pub answer: u64,
     pub line: Line,

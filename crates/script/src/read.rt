@@ -8,7 +8,7 @@ use number::{Number, read_number};
 use setup::Plan;
 
 // Numbers that were read one behind the other, or the refusal: 21, 22 or 23.
-#[derive(Drop)]
+#[derive(Clone, Copy)]
 struct Numbers {
     answer: u64,
     values: [u64; 12],
@@ -16,7 +16,7 @@ struct Numbers {
 }
 
 // A setup that was read to its end, or the refusal: 1 or 21 to 23. The first readings are the first n of `first`.
-#[derive(Drop)]
+#[derive(Clone, Copy)]
 pub struct SetupRead {
     pub answer: u64,
     pub plan: Plan,
@@ -25,7 +25,7 @@ pub struct SetupRead {
 }
 
 // An event that was read to its end, or the refusal: 1 or 21 to 24. An advance's increments are the first n.
-#[derive(Drop)]
+#[derive(Clone, Copy)]
 pub struct EventRead {
     pub answer: u64,
     pub event: Event,

@@ -115,7 +115,7 @@ fn kinds() {
 }
 
 // How many events of a script were read whole, and what stopped the reading, 0 where nothing did.
-#[derive(Drop)]
+#[derive(Clone, Copy)]
 struct Events {
     whole: u64,
     stop: u64,

@@ -15,7 +15,7 @@ use setup::Plan;
 use station::{Board, Outcome, Station};
 
 // What a run has beside its table: its plan, its time, and how many messages are in flight.
-#[derive(Drop)]
+#[derive(Clone, Copy)]
 pub struct Rest {
     pub plan: Plan,
     pub time: Moment,
@@ -23,7 +23,7 @@ pub struct Rest {
 }
 
 // The answer to a setup or an event: 0, or the number that refuses it, and what the run has beside its table then.
-#[derive(Drop)]
+#[derive(Clone, Copy)]
 pub struct Answered {
     pub answer: u64,
     pub rest: Rest,
@@ -52,7 +52,7 @@ pub fn put(table: &mut [Station], i: usize, s: Station)
 }
 
 // What a board does: it hears signatures of a round, or its clock goes on.
-#[derive(Drop)]
+#[derive(Clone, Copy)]
 pub enum Act {
     Hear { round: u64, signers: u64 },
     Advance(u64),

@@ -8,7 +8,7 @@ ghost use Rattle.setup.specs.Setup as rule;
 ghost use Rattle.setup.specs.Laws.{InLimits};
 
 // What a setup names beside its first readings: document 01's n, f, r, T, D, A, P and the mask of faulty stations.
-#[derive(Drop)]
+#[derive(Clone, Copy)]
 pub struct Plan {
     pub stations: u64,
     pub faults: u64,

@@ -14,7 +14,7 @@ use setup::Plan;
 
 // A station: its round, what its clock shows, the last round it signed (0: none) and the signers it has gathered for the
 // round it waits for.
-#[derive(Drop)]
+#[derive(Clone, Copy)]
 pub struct Station {
     pub round: u64,
     pub reading: Reading,
@@ -24,7 +24,7 @@ pub struct Station {
 
 // What a station has done: how it stands then, whether it sent a ready, and the signers of the relay it sent (none: no
 // relay).
-#[derive(Drop)]
+#[derive(Clone, Copy)]
 pub struct Outcome {
     pub station: Station,
     pub ready: bool,
@@ -32,7 +32,7 @@ pub struct Outcome {
 }
 
 // A board's answer: 0, or the number that refuses; the outcome of a refusal is the station as it was.
-#[derive(Drop)]
+#[derive(Clone, Copy)]
 pub struct Board {
     pub answer: u64,
     pub outcome: Outcome,

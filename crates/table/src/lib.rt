@@ -108,7 +108,7 @@ pub fn play(
 // ---- a question
 
 // What may be asked: the reading and round of a station, the lead of one over another, the number in flight.
-#[derive(Drop)]
+#[derive(Clone, Copy)]
 pub enum Question {
     Reading(u64),
     Lead { of: u64, over: u64 },
@@ -116,7 +116,7 @@ pub enum Question {
 }
 
 // What is told: the answer with its values, which are zero where it refuses.
-#[derive(Drop)]
+#[derive(Clone, Copy)]
 pub enum Told {
     Shown(Shown),
     Led(Led),
@@ -144,14 +144,14 @@ pub fn ask(rest: Rest, table: &[Station], words: &[u64], question: Question) -> 
 // ---- a table of one's own
 
 // A table by value: its stations are the first `length` of twelve places.
-#[derive(Drop)]
+#[derive(Clone, Copy)]
 pub struct Seats {
     pub length: usize,
     pub places: [Station; 12],
 }
 
 // What is answered on such a table, and the table then.
-#[derive(Drop)]
+#[derive(Clone, Copy)]
 pub struct Turned {
     pub answered: Answered,
     pub seats: Seats,

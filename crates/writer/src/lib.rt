@@ -13,7 +13,7 @@ use event::Event;
 use setup::Plan;
 
 // How many bytes were written, or the refusal.
-#[derive(Drop)]
+#[derive(Clone, Copy)]
 pub enum Written {
     Bytes(usize),
     Refused(u64),
@@ -22,7 +22,7 @@ pub enum Written {
 // ---- bytes and numbers
 
 // The bytes of a number, in a scratch array: the first `count` of them.
-#[derive(Drop)]
+#[derive(Clone, Copy)]
 struct Scratch {
     bytes: [u8; 10],
     count: usize,

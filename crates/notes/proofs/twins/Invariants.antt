@@ -1,0 +1,15 @@
+-- `notes::twins` answers `twins`. The loop's invariant: the place of each word passed is marked, and no two of those words are equal.
+-- Assumes nothing.
+use Prim.Native.Nat.{◌-◌, ◌%◌, ◌≤◌}
+use mathlib.Core.Path.{◌≡◌, refl, sym, ◌∙◌}
+use native.Mathlib.Omega.{arith}
+use lib.ListN.{length, get_or, length-set}
+use Rattle.flight.specs.Keys.{holds-true, holds-false}
+use Rattle.notes.specs.Marks.{first, Marked, Different, marked-none, marked_more, different-none, different-more, different-twins, new_word, word-twins}
+use Rattle.notes.proofs.twins.Given as goal
+
+abbrev pub invariant-loop-i : goal.invariant-loop-i
+invariant-loop-i l = (l.i ≤ l.count) × (length l.marks ≡ 1024) × Marked l.i l.words l.marks × Different l.i l.words
+
+abbrev pub decreases-loop-i : goal.decreases-loop-i
+decreases-loop-i l = l.count - l.i

@@ -1,0 +1,34 @@
+-- `script::rest` hands back the part of the script from where its setup ends: the place is within the bytes, so that the part
+-- is all that stands behind it, at its own address. Assumes nothing.
+use Prim.Native.Nat.{ℕ, ◌+◌, ◌-◌, ◌≤◌}
+use mathlib.Core.List.{List}
+use mathlib.Core.Path.{◌≡◌, ap, ◌∙◌}
+use lib.ListN.{length, take, drop, length-drop}
+use lib.Seq.{take_all}
+use Rattle.script.specs.Read.{as_setup, read_setup, rest_at, rest_of}
+use Rattle.script.specs.ReadLaws.{setup-inside}
+use Rattle.script.specs.declared.read.SetupRead.{SetupRead}
+use borrow.Author.Rules.{rules}
+use native.Mathlib.Omega.{arith}
+use Rattle.script.proofs.read.rest.Goals as goal
+
+within : (s : List ℕ) {r : SetupRead} → r ≡ as_setup s (read_setup s 0) → r.next ≤ length s
+within s e = rw e (setup-inside s 0)
+
+-- all that stands behind a place
+behind : (s : List ℕ) (at : ℕ) → take (length s - at) (drop at s) ≡ drop at s
+behind s at = take_all (length s - at) (drop at s) (rw length-drop (omega arith))
+
+pub slice_bounds-result-count : goal.slice_bounds-result-count
+slice_bounds-result-count c = within _ c.read_setup-read.ensures
+
+pub slice_bounds-result-start : goal.slice_bounds-result-start
+slice_bounds-result-start c = within _ c.read_setup-read.ensures
+
+pub returns : goal.returns
+unfolding rest_of rest_at
+returns c =
+    let b = c.args.bytes in
+    let e : c.read_setup-read.result.next ≡ rest_at b.now = ap (λ (r : SetupRead). r.next)
+    c.read_setup-read.ensures in
+    record { result_value = behind b.now _ ∙ ap (λ (k : ℕ). drop k b.now) e; ref_ptr_value = λ i. (b.ref_ptr.0, e i + b.ref_ptr.1) }

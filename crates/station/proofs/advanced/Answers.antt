@@ -1,0 +1,15 @@
+-- `station::advanced` goes on within the limits, and does nothing past them. Assumes nothing.
+use mathlib.Core.Path.{sym, ◌∙◌}
+use borrow.Author.Tests.{not-true, not-false}
+use Rattle.station.specs.Limits.{steady-is}
+use borrow.Author.Rules.{rules}
+use Rattle.station.proofs.advanced.Goals as goal
+
+pub returns-then-not-steady : goal.returns-then-not-steady
+returns-then-not-steady c = rw (sym c.steady.ensures ∙ c.if-not-steady.true) c.still.ensures
+
+pub go_on-requires : goal.go_on-requires
+go_on-requires c = steady-is _ _ _ (sym c.steady.ensures ∙ c.if-not-steady.false)
+
+pub returns : goal.returns
+returns c = rw (sym c.steady.ensures ∙ c.if-not-steady.false) c.go_on.ensures

@@ -1,0 +1,15 @@
+-- `station::heard` hears within the limits, and does nothing past them. Assumes nothing.
+use mathlib.Core.Path.{sym, ◌∙◌}
+use borrow.Author.Tests.{not-true, not-false}
+use Rattle.station.specs.Limits.{small_is}
+use borrow.Author.Rules.{rules}
+use Rattle.station.proofs.heard.Goals as goal
+
+pub returns-then-not-small : goal.returns-then-not-small
+returns-then-not-small c = rw (sym c.small.ensures ∙ c.if-not-small.true) c.still.ensures
+
+pub gather-requires : goal.gather-requires
+gather-requires c = small_is _ _ (sym c.small.ensures ∙ c.if-not-small.false)
+
+pub returns : goal.returns
+returns c = rw (sym c.small.ensures ∙ c.if-not-small.false) c.gather.ensures
