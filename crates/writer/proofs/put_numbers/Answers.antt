@@ -10,13 +10,8 @@ use Rattle.number.specs.Number.{number_bytes, bytes_of, laid}
 use Rattle.number.specs.Laws.{laid_none, laid_on, length-laid}
 use Rattle.writer.specs.Laws.{bytes-more, bytes-part}
 use native.Mathlib.Omega.{arith}
-use Rattle.writer.proofs.put_numbers.Statement.{statement}
-use Rattle.writer.proofs.put_numbers.Tie as tie
-
-record Put (vs out₀ : List ℕ) (at i : ℕ) (out : List ℕ) (place : ℕ) : Type 0 where
-  next : place ≡ at + length (bytes_of (take i vs))
-  long : length out ≡ length out₀
-  same : out ≡ laid out₀ at (bytes_of (take i vs))
+use Rattle.writer.proofs.put_numbers.Invariants.{Put}
+use Rattle.writer.proofs.put_numbers.Goals as goal
 
 start : (vs out : List ℕ) (at : ℕ) → Put vs out at 0 out at
 unfolding bytes_of
@@ -52,58 +47,37 @@ done {vs} {i = i} p e =
     let all : take i vs ≡ vs = rw e (take-length vs) in
     (rw all at p.next, rw all at p.same)
 
-abbrev invariant-loop : tie.invariant-loop
-invariant-loop numbers out₀ at place₀ i₀ out place i = (i ≤ length numbers) × Put numbers out₀ at i out place
+pub loop-i-init : goal.loop-i-init
+loop-i-init c = (omega arith, start _ _ _)
 
-abbrev decreases-loop : tie.decreases-loop
-decreases-loop numbers out₀ at place₀ i₀ out place i = length numbers - i
+pub offset_bounds-numbers-i : goal.offset_bounds-numbers-i
+offset_bounds-numbers-i c = omega arith
 
-loop-holds : tie.Need-loop-init invariant-loop decreases-loop
-loop-holds c = (omega arith, start _ _ _)
+pub bounds-numbers-i : goal.bounds-numbers-i
+bounds-numbers-i c = omega arith
 
-mul-put-number : tie.Need-overflow-mul-put-number invariant-loop decreases-loop
-mul-put-number c = omega arith
+pub put_number-place-requires : goal.put_number-place-requires
+put_number-place-requires c = fits _ _ _ _ _ _ c.loop-i.invariant.1
+    c.loop-i-test.true c.requires
 
-shared-slice-read-put-number : tie.Need-shared-slice-read-put-number invariant-loop decreases-loop
-shared-slice-read-put-number c = omega arith
+pub overflow_add-i : goal.overflow_add-i
+overflow_add-i c = omega arith
 
-put-number-requires : tie.Need-put-number-requires invariant-loop decreases-loop
-put-number-requires c κs = fits _ _ _ _ _ _ c.before.before.before.loop.invariant.1
-    c.before.before.loop-test.true c.before.before.before.before.before.before.requires
+pub loop-i-smaller : goal.loop-i-smaller
+loop-i-smaller c = omega arith
 
-add-i : tie.Need-overflow-add-i invariant-loop decreases-loop
-add-i c = omega arith
-
-loop-less : tie.Need-loop-smaller invariant-loop decreases-loop
-loop-less c = omega arith
-
-loop-again : tie.Need-loop-preserved invariant-loop decreases-loop
-loop-again c = (
+pub loop-i-preserved : goal.loop-i-preserved
+loop-i-preserved c = (
   omega arith,
-  turn _ _ _ _ _ _ c.before.before.before.before.before.before.loop.invariant.1
-      c.before.before.before.before.before.loop-test.true
-      c.before.before.before.before.before.before.before.before.before.requires
-      c.before.before.put-number.ensures.0 c.before.before.put-number.ensures.1,
+  turn _ _ _ _ _ _ c.loop-i.invariant.1
+      c.loop-i-test.true
+      c.requires
+      c.put_number-place.ensures.value c.put_number-place.ensures.out_after,
 )
 
-same_length : tie.Need-same-length invariant-loop decreases-loop
-same_length c = c.before.loop.invariant.1.long
+pub shape_of-out : goal.shape_of-out
+shape_of-out c = c.loop-i.invariant.1.long
 
-returns : tie.Need-returns invariant-loop decreases-loop
-returns c = done c.before.loop.invariant.1 (omega arith)
-
-pub put-numbers-spec : {M : Type 1} → statement M
-put-numbers-spec =
-    tie.close
-    (tie.spec
-    invariant-loop
-    decreases-loop
-    loop-holds
-    mul-put-number
-    shared-slice-read-put-number
-    put-number-requires
-    add-i
-    loop-less
-    loop-again
-    same_length
-    returns)
+pub returns : goal.returns
+returns c =
+    record { value = (done c.loop-i.invariant.1 (omega arith)).0; out_after = (done c.loop-i.invariant.1 (omega arith)).1 }

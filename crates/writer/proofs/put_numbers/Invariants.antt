@@ -1,0 +1,24 @@
+-- `writer::put_numbers` lays the bytes of a row down: after i turns those of the first i numbers. The measure is what is left
+-- of the row. Assumes nothing.
+use Prim.Native.Nat.{ℕ, ◌+◌, ◌-◌, ◌≤◌, ◌<◌}
+use mathlib.Core.List.{List}
+use mathlib.Core.Path.{◌≡◌, refl, sym, ◌∙◌, ap, ap₂}
+use native.Mathlib.Numerals.{add-one}
+use lib.ListN.{length, take, get_or, length-append}
+use lib.Seq.{take-length}
+use Rattle.number.specs.Number.{number_bytes, bytes_of, laid}
+use Rattle.number.specs.Laws.{laid_none, laid_on, length-laid}
+use Rattle.writer.specs.Laws.{bytes-more, bytes-part}
+use native.Mathlib.Omega.{arith}
+use Rattle.writer.proofs.put_numbers.Given as goal
+
+pub record Put (vs out₀ : List ℕ) (at i : ℕ) (out : List ℕ) (place : ℕ) : Type 0 where
+  pub next : place ≡ at + length (bytes_of (take i vs))
+  pub long : length out ≡ length out₀
+  pub same : out ≡ laid out₀ at (bytes_of (take i vs))
+
+abbrev pub invariant-loop-i : goal.invariant-loop-i
+invariant-loop-i l = (l.i ≤ length l.numbers) × Put l.numbers l.initial.out l.at l.i l.out l.place
+
+abbrev pub decreases-loop-i : goal.decreases-loop-i
+decreases-loop-i l = length l.numbers - l.i
