@@ -1,0 +1,14 @@
+-- `text::put_long` spells a number from its last digit on: each turn lays one more digit in front. The measure is how many
+-- are left. Assumes nothing.
+use Prim.Native.Nat.{ℕ, ◌+◌}
+use mathlib.Core.Path.{◌≡◌, ap}
+use native.Mathlib.Omega.{arith}
+use Rattle.text.specs.Text.{places}
+use Rattle.text.specs.Laws.{places-few, Spelt, spelt-start, spelt-next, spelt-end}
+use Rattle.text.proofs.put_long.Given as goal
+
+abbrev pub invariant-loop-left : goal.invariant-loop-left
+invariant-loop-left l = (l.count ≡ places l.x) × Spelt l.x l.initial.out l.at l.count l.out l.rest l.left
+
+abbrev pub decreases-loop-left : goal.decreases-loop-left
+decreases-loop-left l = l.left

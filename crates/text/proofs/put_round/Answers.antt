@@ -1,0 +1,17 @@
+-- `text::put_round` lays a space and the round, or a space and `-`, by whether the station is faulty. Assumes nothing.
+use mathlib.Core.Path.{sym, ◌∙◌}
+use native.Mathlib.Omega.{arith}
+use Rattle.text.specs.Text.{single}
+use Rattle.text.specs.Laws.{laid_both, length-spaced}
+use borrow.Author.Rules.{rules}
+use Rattle.text.proofs.put_round.Goals as goal
+
+pub returns-then-has : goal.returns-then-has
+returns-then-has c =
+    let faulty = sym c.has.ensures ∙ c.if-has.true in
+    rw faulty record { value = omega (arith, c.put_byte-next.ensures.value, c.put_byte.ensures.value); out_after = laid_both _ _ (single 32) (single 45) (omega (arith, c.requires)) c.put_byte-next.ensures.out_after c.put_byte-next.ensures.value c.put_byte.ensures.out_after }
+
+pub returns : goal.returns
+returns c =
+    let sound = sym c.has.ensures ∙ c.if-has.false in
+    rw sound record { value = c.put_spaced.ensures.value ∙ omega (arith, length-spaced c.args.round); out_after = c.put_spaced.ensures.out_after }

@@ -1,0 +1,12 @@
+-- `text::put_spaced` lays a space and a number behind it. Assumes nothing.
+use native.Mathlib.Omega.{arith}
+use Rattle.text.specs.Text.{single, spaced, decimal}
+use Rattle.text.specs.Laws.{laid_both}
+use borrow.Author.Rules.{rules}
+use Rattle.text.proofs.put_spaced.Goals as goal
+
+pub returns : goal.returns
+unfolding spaced
+returns c =
+    let a = c.args in
+    record { value = omega (arith, c.put_byte-next.ensures.value, c.put_decimal.ensures.value); out_after = laid_both _ _ (single 32) (decimal a.x) (omega arith) c.put_byte-next.ensures.out_after c.put_byte-next.ensures.value c.put_decimal.ensures.out_after }
