@@ -6,17 +6,10 @@ use lib.ListN.{length}
 use Rattle.clock.specs.Limits.{max_script}
 use Rattle.run.specs.Part.{goes_on}
 use borrow.Author.Rules.{rules}
-use Rattle.run.proofs.parts.goes_on.Statement.{statement}
-use Rattle.run.proofs.parts.goes_on.Tie as tie
+use Rattle.run.proofs.parts.goes_on.Goals as goal
 
-roomy-requires : tie.Need-roomy-requires
-roomy-requires c κs = search rules
-
-returns : tie.Need-returns
+pub returns : goal.returns
 unfolding goes_on
 returns c =
-    let a = c.before.before.before.args in
+    let a = c.args in
     ap (λ (b : Bool). ltb a.next (length a.bytes.now) && ltb a.number max_script && b) c.roomy.ensures
-
-pub goes-on-spec : {M : Type 1} → statement M
-goes-on-spec = tie.close (tie.spec roomy-requires returns)

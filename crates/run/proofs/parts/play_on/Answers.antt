@@ -1,0 +1,164 @@
+-- `run::play_on` plays one event after the other: what is still to be played from where it stands is what was to be played from
+-- the start, the record stays valid, and the rounds signed and the line's end are kept beside it. The measure is how many events
+-- may still come. Assumes nothing.
+use Prim.Native.Nat.{◌-◌}
+use mathlib.Core.Logic.{◌⊎◌, inl, inr}
+use mathlib.Core.Path.{◌≡◌, refl, ap, sym, ◌∙◌}
+use native.Mathlib.Omega.{arith}
+use lib.ListN.{length, take}
+use lib.Seq.{length-take-le}
+use Rattle.clock.specs.Limits.{max_script}
+use Rattle.run.specs.Hearing.{line-stands}
+use Rattle.run.specs.Part.{Standing, standing}
+use Rattle.run.specs.PartLaws.{Onward, Beside, Turned, turned_as, goes_number, ready-onward, onward-read, onward-ends, part-from, turn-held, turn-few, turn-increments, turn-read, turn-hearer, turn-nobody, turn-plan, turn-passes, turn-starts, turn-stays, turn-shown}
+use borrow.Author.Rules.{rules}
+use Rattle.run.proofs.parts.play_on.Goals as goal
+use Rattle.run.proofs.parts.play_on.Goals.{Joined-i-n, then-i-n, else-i-n+then-s-was, else-i-n+else-s-was}
+
+-- the turn, whichever way it went: the event is played, and the places noted are as many as before
+turned : (c : Joined-i-n)
+    → Turned c.args.line.plan.stations (standing 0 c.loop-read.line c.loop-read.words c.loop-read.next c.loop-read.number c.loop-read.out c.loop-read.place) c.read_event-read.result.event (take c.args.line.plan.stations c.read_event-read.result.increments) c.if-i-n.answer c.if-i-n.line c.if-i-n.words c.if-i-n.signed c.if-i-n.end c.if-i-n.long
+turned c =
+    let inv = c.loop-read.invariant in
+    let q = c.hearer-i.ensures in
+    elim c.if-i-n.branch [
+    | then-i-n w ↦
+        turned_as (turn-passes _ _ _ inv.0 inv.1 _ _ w.pass-p.result _ w.pass-p.ensures.value w.pass-p.ensures.words_after _ w.note_signed.ensures _ _ w.line_end-long.ensures.value w.line_end-long.ensures.out_after) w.words-is w.signed-is w.end-is w.long-is w.line-is w.answer-is
+    | else-i-n+then-s-was w ↦
+        turned_as (turn-starts _ _ _ inv.0 inv.1 _ _ _ q (omega (arith, w.if-i-n.false)) w.hear-h.result _ w.hear-h.ensures _ _ w.line_end-long-then-s-was.ensures.value w.line_end-long-then-s-was.ensures.out_after) w.words-is w.signed-is w.end-is w.long-is w.line-is w.answer-is
+    | else-i-n+else-s-was w ↦
+        turned_as (turn-stays _ _ _ inv.0 inv.1 _ _ _ q (omega (arith, w.if-i-n.false)) w.hear-h.result _ w.hear-h.ensures w.if-s-was.false) w.words-is w.signed-is w.end-is w.long-is w.line-is w.answer-is
+    ]
+
+pub loop-read-init : goal.loop-read-init
+loop-read-init c =
+    let a = c.args in
+    (ready-onward c.requires a.bytes.now a.next a.number a.out.now a.place, c.requires.beside, refl)
+
+pub goes_on-requires : goal.goes_on-requires
+goes_on-requires c = tt
+
+pub read_event-read-requires : goal.read_event-read-requires
+read_event-read-requires c = tt
+
+pub script_line-requires : goal.script_line-requires
+script_line-requires c = tt
+
+pub shape_of-words-then-read-ne0 : goal.shape_of-words-then-read-ne0
+shape_of-words-then-read-ne0 c = c.loop-read.invariant.0.words
+
+pub shape_of-out-then-read-ne0 : goal.shape_of-out-then-read-ne0
+shape_of-out-then-read-ne0 c = c.out-1.given ∙ c.loop-read.invariant.0.out
+
+pub shape_of-signed-then-read-ne0 : goal.shape_of-signed-then-read-ne0
+shape_of-signed-then-read-ne0 c = c.loop-read.invariant.1.twelve ∙ sym c.requires.beside.twelve
+
+pub shape_of-places-then-read-ne0 : goal.shape_of-places-then-read-ne0
+shape_of-places-then-read-ne0 c = c.loop-read.invariant.2
+
+pub shape_of-end-then-read-ne0 : goal.shape_of-end-then-read-ne0
+shape_of-end-then-read-ne0 c = c.loop-read.invariant.1.room ∙ sym c.requires.beside.room
+
+pub returns-then-read-ne0 : goal.returns-then-read-ne0
+returns-then-read-ne0 c =
+    let read = c.read_event-read in
+    let g = sym c.goes_on.ensures ∙ c.loop-read-test.true in
+    let inv = c.loop-read.invariant in
+    let from = part-from _ _ _ (onward-read _ _ _ inv.0 g read.result (turn-read _ _ _ inv.0 inv.1 read.result read.ensures) c.if-read-ne0.true _ _ c.script_line.ensures.value c.script_line.ensures.out_after) in
+    record { value = from.0; words_after = from.1.0; out_after = from.1.1 }
+
+pub hearer-i-requires : goal.hearer-i-requires
+hearer-i-requires c = tt
+
+pub overflow_add-number : goal.overflow_add-number
+overflow_add-number c = omega (arith, (goes_number _ _ _ _ _ (sym c.goes_on.ensures ∙ c.loop-read-test.true)).0)
+
+pub slice_bounds-increments-end : goal.slice_bounds-increments-end
+slice_bounds-increments-end c = let inv = c.loop-read.invariant in turn-increments _ _ _ inv.0 inv.1 c.read_event-read.result c.read_event-read.ensures
+
+pub slice_bounds-pass-end : goal.slice_bounds-pass-end
+slice_bounds-pass-end c = let inv = c.loop-read.invariant in sym (length-take-le _ _ (turn-increments _ _ _ inv.0 inv.1 c.read_event-read.result c.read_event-read.ensures))
+
+pub pass-p-requires : goal.pass-p-requires
+pass-p-requires c =
+    let inv = c.loop-read.invariant in
+    record { held = turn-held _ _ _ inv.0 inv.1; stations_bound = turn-nobody _ _ _ inv.0 inv.1 _ _ c.hearer-i.ensures c.if-i-n.true }
+
+pub note_places-requires : goal.note_places-requires
+note_places-requires c = tt
+
+pub note_signed-requires : goal.note_signed-requires
+note_signed-requires c =
+    let inv = c.loop-read.invariant in
+    let many = turn-plan _ _ _ inv.0 inv.1 _ _ _ c.pass-p.ensures.value in
+    let few = turn-few _ _ _ inv.0 inv.1 in
+    (omega (arith, many, few), omega (arith, many, few, inv.1.twelve))
+
+pub line_end-long-requires : goal.line_end-long-requires
+line_end-long-requires c = tt
+
+pub offset_bounds-line-i : goal.offset_bounds-line-i
+offset_bounds-line-i c = let inv = c.loop-read.invariant in omega (arith, c.if-i-n.false, turn-few _ _ _ inv.0 inv.1)
+
+pub bounds-line-i : goal.bounds-line-i
+bounds-line-i c = let inv = c.loop-read.invariant in omega (arith, c.if-i-n.false, turn-few _ _ _ inv.0 inv.1)
+
+pub hear-h-requires : goal.hear-h-requires
+hear-h-requires c =
+    let inv = c.loop-read.invariant in
+    record { stands = line-stands (turn-held _ _ _ inv.0 inv.1) _ _ (turn-hearer _ _ _ inv.0 inv.1 _ _ c.hearer-i.ensures) (omega (arith, c.if-i-n.false, inv.1.stations)); signed_len = inv.1.twelve }
+
+pub offset_bounds-line-i-else-i-n : goal.offset_bounds-line-i-else-i-n
+offset_bounds-line-i-else-i-n c = let inv = c.loop-read.invariant in omega (arith, c.if-i-n.false, turn-few _ _ _ inv.0 inv.1)
+
+pub bounds-line-i-else-i-n : goal.bounds-line-i-else-i-n
+bounds-line-i-else-i-n c = let inv = c.loop-read.invariant in omega (arith, c.if-i-n.false, turn-few _ _ _ inv.0 inv.1, inv.0.twelve)
+
+pub offset_bounds-signed-i : goal.offset_bounds-signed-i
+offset_bounds-signed-i c = let inv = c.loop-read.invariant in omega (arith, c.if-i-n.false, turn-few _ _ _ inv.0 inv.1)
+
+pub bounds-signed-i : goal.bounds-signed-i
+bounds-signed-i c = let inv = c.loop-read.invariant in omega (arith, c.if-i-n.false, turn-few _ _ _ inv.0 inv.1, inv.1.twelve)
+
+pub line_end-long-requires-then-s-was : goal.line_end-long-requires-then-s-was
+line_end-long-requires-then-s-was c = tt
+
+pub slice_bounds-event_line-end : goal.slice_bounds-event_line-end
+slice_bounds-event_line-end c = let b = (turned c).beside in omega (arith, b.fits, b.room)
+
+pub slice_bounds-event_line-end-in-loop-read : goal.slice_bounds-event_line-end-in-loop-read
+slice_bounds-event_line-end-in-loop-read c = let b = (turned c).beside in sym (length-take-le _ _ (omega (arith, b.fits, b.room)))
+
+pub event_line-place-requires : goal.event_line-place-requires
+event_line-place-requires c = tt
+
+pub loop-read-smaller : goal.loop-read-smaller
+loop-read-smaller c = omega (arith, (goes_number _ _ _ _ _ (sym c.goes_on.ensures ∙ c.loop-read-test.true)).0)
+
+pub loop-read-preserved : goal.loop-read-preserved
+loop-read-preserved c =
+    let inv = c.loop-read.invariant in
+    let g = sym c.goes_on.ensures ∙ c.loop-read-test.true in
+    let read = c.read_event-read in
+    let t = turned (goal.at.loop-read-preserved c).Joined-i-n in
+    (turn-shown _ _ _ inv.0 inv.1 g read.result read.ensures c.if-read-ne0.false t _ _ c.event_line-place.ensures.value c.event_line-place.ensures.out_after, t.beside, c.if-i-n.auto.places ∙ inv.2)
+
+pub shape_of-words : goal.shape_of-words
+shape_of-words c = c.loop-read.invariant.0.words
+
+pub shape_of-out : goal.shape_of-out
+shape_of-out c = c.loop-read.invariant.0.out
+
+pub shape_of-signed : goal.shape_of-signed
+shape_of-signed c = c.loop-read.invariant.1.twelve ∙ sym c.requires.beside.twelve
+
+pub shape_of-places : goal.shape_of-places
+shape_of-places c = c.loop-read.invariant.2
+
+pub shape_of-end : goal.shape_of-end
+shape_of-end c = c.loop-read.invariant.1.room ∙ sym c.requires.beside.room
+
+pub returns : goal.returns
+returns c =
+    let from = part-from _ _ _ (onward-ends _ _ _ c.loop-read.invariant.0 (sym c.goes_on.ensures ∙ c.loop-read-test.false)) in
+    record { value = from.0; words_after = from.1.0; out_after = from.1.1 }

@@ -1,0 +1,24 @@
+-- `run::play_on` plays one event after the other: what is still to be played from where it stands is what was to be played from
+-- the start, the record stays valid, and the rounds signed and the line's end are kept beside it. The measure is how many events
+-- may still come. Assumes nothing.
+use Prim.Native.Nat.{◌-◌}
+use mathlib.Core.Logic.{◌⊎◌, inl, inr}
+use mathlib.Core.Path.{◌≡◌, refl, ap, sym, ◌∙◌}
+use native.Mathlib.Omega.{arith}
+use lib.ListN.{length, take}
+use lib.Seq.{length-take-le}
+use Rattle.clock.specs.Limits.{max_script}
+use Rattle.run.specs.Hearing.{line-stands}
+use Rattle.run.specs.Part.{Standing, standing}
+use Rattle.run.specs.PartLaws.{Onward, Beside, Turned, turned_as, goes_number, ready-onward, onward-read, onward-ends, part-from, turn-held, turn-few, turn-increments, turn-read, turn-hearer, turn-nobody, turn-plan, turn-passes, turn-starts, turn-stays, turn-shown}
+use borrow.Author.Rules.{rules}
+use Rattle.run.proofs.parts.play_on.Given as goal
+
+abbrev pub invariant-loop-read : goal.invariant-loop-read
+invariant-loop-read l =
+    Onward l.bytes (standing 0 l.initial.line l.initial.words l.initial.next l.initial.number l.initial.out l.initial.place) (standing 0 l.line l.words l.next l.number l.out l.place)
+    × Beside l.n l.line l.signed l.end l.long × (length l.places ≡ length l.initial.places)
+
+abbrev pub decreases-loop-read : goal.decreases-loop-read
+decreases-loop-read l =
+    max_script - l.number
