@@ -43,7 +43,8 @@ fn number_at(bytes: &[u8], at: usize) -> NumberRead
 
 // The part of the bytes from a place on; where the place is past them, the empty part at their end.
 fn part(bytes: &[u8], at: usize) -> &[u8]
-    ensures { (result.now ≡ form.part_from bytes.entry at) × (result.ref_ptr ≡ form.part_ptr bytes.entry at) }
+    ensures bytes_left { result.now ≡ form.part_from bytes.entry at }
+    ensures address { result.ref_ptr ≡ form.part_ptr bytes.entry at }
 {
     if bytes.len() <= at {
         return &bytes[bytes.len()..];
@@ -68,14 +69,16 @@ impl<'a> Reader<'a> {
 
     // The unread rest: that part of the lent bytes, and no copy.
     pub fn rest(self) -> &'a [u8]
-        ensures { (result.now ≡ form.rest_of self.entry) × (result.ref_ptr ≡ form.rest_ptr self.entry) }
+        ensures bytes_left { result.now ≡ form.rest_of self.entry }
+        ensures address { result.ref_ptr ≡ form.rest_ptr self.entry }
     {
         part(self.bytes, self.place)
     }
 
     // Reads a number.
     pub fn number(&mut self) -> NumberRead
-        ensures { (result ≡ form.number_of self.old) × (self.new ≡ form.after_number self.old) }
+        ensures value { result ≡ form.number_of self.old }
+        ensures reader_after { self.new ≡ form.after_number self.old }
     {
         let read = number_at(self.bytes, self.place);
         self.place = read.next;
@@ -84,7 +87,8 @@ impl<'a> Reader<'a> {
 
     // Reads an event of a line of so many stations.
     pub fn event(&mut self, stations: u64) -> EventRead
-        ensures { (result ≡ form.event_of stations self.old) × (self.new ≡ form.after_event stations self.old) }
+        ensures value { result ≡ form.event_of stations self.old }
+        ensures reader_after { self.new ≡ form.after_event stations self.old }
     {
         let read = read_event(self.bytes, self.place, stations);
         self.place = read.next;
@@ -93,7 +97,8 @@ impl<'a> Reader<'a> {
 
     // Reads the setup.
     pub fn setup(&mut self) -> SetupRead
-        ensures { (result ≡ form.setup_of self.old) × (self.new ≡ form.after_setup self.old) }
+        ensures value { result ≡ form.setup_of self.old }
+        ensures reader_after { self.new ≡ form.after_setup self.old }
     {
         let read = read_setup(self.bytes, self.place);
         self.place = read.next;
@@ -111,7 +116,8 @@ pub fn event_at(bytes: &[u8], place: usize, stations: u64) -> EventRead
 
 // The unread rest behind the event at a place.
 pub fn rest_behind(bytes: &[u8], place: usize, stations: u64) -> &[u8]
-    ensures { (result.now ≡ form.rest_of (form.after_event stations (form.reader_at bytes.entry place))) × (result.ref_ptr ≡ form.rest_ptr (form.after_event stations (form.reader_at bytes.entry place))) }
+    ensures bytes_left { result.now ≡ form.rest_of (form.after_event stations (form.reader_at bytes.entry place)) }
+    ensures address { result.ref_ptr ≡ form.rest_ptr (form.after_event stations (form.reader_at bytes.entry place)) }
 {
     let mut reader = Reader::at(bytes, place);
     reader.event(stations);
