@@ -1,14 +1,33 @@
-// What is printed on standard output: bytes that others made; and an answer on a record, with the record as rows of numbers.
+// What is read from standard input, and what is printed on standard output: bytes that others made; and an answer on a record,
+// with the record as rows of numbers. A read or a write that fails is passed on.
 #![tactic(auto)]
 
-use libc::STDOUT_FILENO;
+ghost use Rattle.std.specs.Prelude.{◌≤◌, length, IfOk};
+
+use std::io::{Read, Result, Write};
 use writer::Written;
 
-// Prints the first `count` bytes.
-pub fn print(out: &[u8], count: usize) {
-    if count <= out.len() {
-        io::write_all(STDOUT_FILENO, &out[..count]);
+// Reads until the buffer is full or the input ends, and answers how many bytes it put at the buffer's start.
+pub fn read_full<R: Read>(input: &mut R, buffer: &mut [u8]) -> Result<usize>
+    ensures { IfOk result (λ n. n ≤ length buffer.new) }
+{
+    let mut done = 0;
+    while done < buffer.len() {
+        let got = input.read(&mut buffer[done..])?;
+        if got == 0 {
+            break;
+        }
+        done += got;
     }
+    Ok(done)
+}
+
+// Prints the first `count` bytes.
+pub fn print(rt: &impl Print, out: &[u8], count: usize) -> Result<()> {
+    if count <= out.len() {
+        std::io::writer(rt).write_all(&out[..count])?;
+    }
+    Ok(())
 }
 
 // So far on; a place that is too far on stays.
@@ -63,16 +82,17 @@ fn add_numbers(values: &[u64], from: usize, end: usize, out: &mut [u8], place: u
 }
 
 // What is written, printed where little room is left, and the place to go on from.
-fn flushed(out: &[u8], place: usize) -> usize {
+fn flushed(rt: &impl Print, out: &[u8], place: usize) -> Result<usize> {
     if place > 60_000 {
-        print(out, place);
-        return 0;
+        print(rt, out, place)?;
+        return Ok(0);
     }
-    place
+    Ok(place)
 }
 
 // Rows of so many numbers, each behind a word.
 fn add_rows(
+    rt: &impl Print,
     word: &[u8],
     values: &[u64],
     start: usize,
@@ -80,20 +100,20 @@ fn add_rows(
     count: usize,
     out: &mut [u8],
     place: usize,
-) -> usize {
+) -> Result<usize> {
     let mut next = place;
     let mut from = start;
     let mut i: usize = 0;
     while i < count {
         let end = beyond(from, width);
-        next = flushed(out, next);
+        next = flushed(rt, out, next)?;
         next = add(word, out, next);
         next = add_numbers(values, from, end, out, next);
         next = add(b"\n", out, next);
         from = end;
         i += 1;
     }
-    next
+    Ok(next)
 }
 
 // ---- an answer
@@ -151,11 +171,19 @@ fn add_answer(told: Told, out: &mut [u8]) -> usize {
 }
 
 // Prints the answer, its values, the time, each station and each message in flight.
-pub fn show(told: Told, time: u64, sheet: &[u64], stations: Rows, messages: Rows) {
+pub fn show(
+    rt: &impl Print,
+    told: Told,
+    time: u64,
+    sheet: &[u64],
+    stations: Rows,
+    messages: Rows,
+) -> Result<()> {
     let mut out = io::large_buffer();
     let answered = add_answer(told, &mut out);
     let timed = add_told(b"time ", time, &mut out, answered);
     let seated = add_rows(
+        rt,
         b"station",
         sheet,
         stations.start,
@@ -163,8 +191,9 @@ pub fn show(told: Told, time: u64, sheet: &[u64], stations: Rows, messages: Rows
         stations.count,
         &mut out,
         timed,
-    );
+    )?;
     let end = add_rows(
+        rt,
         b"message",
         sheet,
         messages.start,
@@ -172,13 +201,13 @@ pub fn show(told: Told, time: u64, sheet: &[u64], stations: Rows, messages: Rows
         messages.count,
         &mut out,
         seated,
-    );
-    print(&out, end);
+    )?;
+    print(rt, &out, end)
 }
 
 // Prints what stops the reading.
-pub fn show_stop(stop: u64) {
+pub fn show_stop(rt: &impl Print, stop: u64) -> Result<()> {
     let mut out = [0u8; 64];
     let place = add_told(b"script ", stop, &mut out, 0);
-    print(&out, place);
+    print(rt, &out, place)
 }

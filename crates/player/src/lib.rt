@@ -3,31 +3,38 @@
 #![tactic(auto)]
 
 use run::Part;
+use std::io::Result;
 
 // Plays an opened script part by part and prints each. A part holds one event at least, so there are no more than bytes.
-fn play(bytes: &[u8], opened: Part, words: &mut [u64], out: &mut [u8]) {
+fn play(
+    rt: &impl Print,
+    bytes: &[u8],
+    opened: Part,
+    words: &mut [u64],
+    out: &mut [u8],
+) -> Result<()> {
     let mut part = opened;
     let mut parts: u64 = 0;
     while parts < clock::MAX_SCRIPT {
         let line = part.line;
         part = run::play_part(line, words, bytes, part.next, part.number, out, part.place);
-        paper::print(out, part.place);
+        paper::print(rt, out, part.place)?;
         part.place = 0;
         if (part.answer != 0) | (part.next >= bytes.len()) {
-            return;
+            return Ok(());
         }
         parts += 1;
     }
+    Ok(())
 }
 
 // Opens the script and plays it, where its setup is accepted.
-pub fn rehearse(bytes: &[u8]) {
+pub fn rehearse(rt: &impl Print, bytes: &[u8]) -> Result<()> {
     let mut words = [0u64; 3072];
     let mut out = io::large_buffer();
     let opened = rehearsal::open(bytes, &mut out);
     if opened.answer != 0 {
-        paper::print(&out, opened.place);
-        return;
+        return paper::print(rt, &out, opened.place);
     }
-    play(bytes, opened, &mut words, &mut out);
+    play(rt, bytes, opened, &mut words, &mut out)
 }

@@ -12,6 +12,7 @@ use paper::{Rows, Told};
 use run::Played;
 use setup::Plan;
 use station::Station;
+use std::io::Result;
 
 // The sheet: an advance's increments; n, f, r, T, D, A, P, the mask, the time, L and the claimed count; the event or question,
 // its kind first; L stations of four numbers; the messages of six.
@@ -483,7 +484,7 @@ fn answer(words: &mut [u64], sheet: &mut [u64]) -> Told {
 }
 
 // Prints what is answered, and the record as it stands on the sheet.
-fn show(told: Told, sheet: &[u64]) {
+fn show(rt: &impl Print, told: Told, sheet: &[u64]) -> Result<()> {
     let stations = Rows {
         start: STATIONS,
         count: length(sheet),
@@ -492,18 +493,17 @@ fn show(told: Told, sheet: &[u64]) {
         start: MESSAGES,
         count: count(sheet),
     };
-    paper::show(told, at(sheet, TIME), sheet, stations, messages);
+    paper::show(rt, told, at(sheet, TIME), sheet, stations, messages)
 }
 
 // One record, and one event or question on it: reads both, and prints the answer and the record then.
-pub fn single(bytes: &[u8]) {
+pub fn single(rt: &impl Print, bytes: &[u8]) -> Result<()> {
     let mut sheet = [0u64; 6240];
     let mut words = [0u64; 3072];
     let stop = read(bytes, &mut sheet);
     if stop != 0 {
-        paper::show_stop(stop);
-        return;
+        return paper::show_stop(rt, stop);
     }
     let told = answer(&mut words, &mut sheet);
-    show(told, &sheet);
+    show(rt, told, &sheet)
 }

@@ -1,12 +1,10 @@
 // Plays a script from standard input.
 #![tactic(auto)]
 
-use libc::STDIN_FILENO;
+use std::io::Result;
 
-fn main() {
+fn main(rt: HostRuntime) -> Result<()> {
     let mut script = [0u8; 65537];
-    let got = io::read_full(STDIN_FILENO, &mut script);
-    if got <= 65_537 {
-        player::rehearse(&script[..got]);
-    }
+    let got = paper::read_full(&mut rt.stdin(), &mut script)?;
+    player::rehearse(&rt, &script[..got])
 }

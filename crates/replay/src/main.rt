@@ -2,7 +2,7 @@
 // record) and its length (four bytes, the lowest first).
 #![tactic(auto)]
 
-use libc::STDIN_FILENO;
+use std::io::{Read, Result};
 
 // What comes next: its kind, and its length, or one that is too long where there is no more.
 #[derive(Clone, Copy)]
@@ -19,57 +19,59 @@ fn length(header: [u8; 5]) -> usize {
 }
 
 // Reads the next one into the buffer. One that is cut short or does not fit is the end.
-fn next(bytes: &mut [u8]) -> Piece {
+fn next<R: Read>(input: &mut R, bytes: &mut [u8]) -> Result<Piece> {
     let mut header = [0u8; 5];
-    let got = io::read_full(STDIN_FILENO, &mut header);
+    let got = paper::read_full(input, &mut header)?;
     let count = length(header);
     let h = header;
     let kind = h[0];
     if got < 5 {
-        return Piece {
+        return Ok(Piece {
             kind: 0,
             count: 65_538,
-        };
+        });
     }
     if count > bytes.len() {
-        return Piece {
+        return Ok(Piece {
             kind: 0,
             count: 65_538,
-        };
+        });
     }
-    let filled = io::read_full(STDIN_FILENO, &mut bytes[..count]);
+    let filled = paper::read_full(input, &mut bytes[..count])?;
     if filled < count {
-        return Piece {
+        return Ok(Piece {
             kind: 0,
             count: 65_538,
-        };
+        });
     }
-    Piece {
+    Ok(Piece {
         kind: kind,
         count: count,
-    }
+    })
 }
 
 // Plays one; one of another kind is passed over.
-fn play(kind: u8, bytes: &[u8]) {
+fn play(rt: &impl Print, kind: u8, bytes: &[u8]) -> Result<()> {
     if kind == 0 {
-        player::rehearse(bytes);
-        return;
+        return player::rehearse(rt, bytes);
     }
     if kind == 1 {
-        records::single(bytes);
+        return records::single(rt, bytes);
     }
+    Ok(())
 }
 
-fn main() {
+fn main(rt: HostRuntime) -> Result<()> {
+    let mut input = rt.stdin();
     let mut bytes = [0u8; 65537];
     let mut played: u64 = 0;
     while played < 10_000_000 {
-        let n = next(&mut bytes);
+        let n = next(&mut input, &mut bytes)?;
         if n.count > 65_537 {
-            return;
+            return Ok(());
         }
-        play(n.kind, &bytes[..n.count]);
+        play(&rt, n.kind, &bytes[..n.count])?;
         played += 1;
     }
+    Ok(())
 }

@@ -17,9 +17,6 @@ offset_bounds-increments-i c = omega arith
 pub bounds-increments-i : goal.bounds-increments-i
 bounds-increments-i c = omega arith
 
-pub bad_increment-bad-requires : goal.bad_increment-bad-requires
-bad_increment-bad-requires c = tt
-
 pub overflow_add-i : goal.overflow_add-i
 overflow_add-i c = omega arith
 

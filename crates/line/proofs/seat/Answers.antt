@@ -15,9 +15,6 @@ turn : (first : List ℕ) (i : ℕ) {table : List Station} → table ≡ seated_
 unfolding seated_to
 turn first i e = rw add-one (ap (λ (t : List Station). set t i (fresh_station (get_or first i 0))) e)
 
-pub no_station-table-requires : goal.no_station-table-requires
-no_station-table-requires c = tt
-
 pub loop-i-init : goal.loop-i-init
 unfolding seated_to
 loop-i-init c = (omega arith, ap (λ (s : Station). replicate 12 s) c.no_station-table.ensures)

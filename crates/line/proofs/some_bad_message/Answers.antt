@@ -14,9 +14,6 @@ pub loop-i-init : goal.loop-i-init
 unfolding decode some_of
 loop-i-init c = (omega arith, refl)
 
-pub message_at-requires : goal.message_at-requires
-message_at-requires c = tt
-
 pub bad_message-bad-requires : goal.bad_message-bad-requires
 bad_message-bad-requires c = c.requires
 

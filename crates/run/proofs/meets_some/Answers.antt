@@ -28,9 +28,6 @@ offset_bounds-l-i c = omega (arith, c.requires.settled.few)
 pub bounds-l-i : goal.bounds-l-i
 bounds-l-i c = omega (arith, c.requires.settled.few)
 
-pub meets_at-t-requires : goal.meets_at-t-requires
-meets_at-t-requires c = tt
-
 pub overflow_add-i : goal.overflow_add-i
 overflow_add-i c = omega arith
 

@@ -17,9 +17,6 @@ offset_bounds-signed-i c = omega (arith, c.requires)
 pub bounds-signed-i : goal.bounds-signed-i
 bounds-signed-i c = omega (arith, c.requires)
 
-pub unsigned_at-bad-requires : goal.unsigned_at-bad-requires
-unsigned_at-bad-requires c = tt
-
 pub overflow_add-i : goal.overflow_add-i
 overflow_add-i c = omega arith
 

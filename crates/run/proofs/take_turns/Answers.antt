@@ -23,17 +23,11 @@ offset_bounds-l-i c = omega (arith, c.requires.settled.few)
 pub bounds-l-i : goal.bounds-l-i
 bounds-l-i c = omega (arith, c.requires.settled.few)
 
-pub advanced-o-requires : goal.advanced-o-requires
-advanced-o-requires c = tt
-
 pub offset_bounds-stations-i : goal.offset_bounds-stations-i
 offset_bounds-stations-i c = omega (arith, c.requires.settled.few)
 
 pub bounds-stations-i : goal.bounds-stations-i
 bounds-stations-i c = omega (arith, c.requires.settled.few)
-
-pub count_sent-sent-requires : goal.count_sent-sent-requires
-count_sent-sent-requires c = tt
 
 pub overflow_add-sent : goal.overflow_add-sent
 overflow_add-sent c =

@@ -13,9 +13,6 @@ use Rattle.run.specs.Advance.{sent_to, goes-is, turn-sent, turn-room, turn-laid,
 use borrow.Author.Rules.{rules}
 use Rattle.run.proofs.tell_all.Goals as goal
 
-pub after-time-requires : goal.after-time-requires
-after-time-requires c = tt
-
 pub loop-i-init : goal.loop-i-init
 loop-i-init c =
     let a = c.args in
@@ -33,9 +30,6 @@ offset_bounds-l-i c = omega (arith, c.requires.going.settled.few)
 
 pub bounds-l-i : goal.bounds-l-i
 bounds-l-i c = omega (arith, c.requires.going.settled.few)
-
-pub advanced-o-requires : goal.advanced-o-requires
-advanced-o-requires c = tt
 
 pub overflow_add-s : goal.overflow_add-s
 overflow_add-s c =

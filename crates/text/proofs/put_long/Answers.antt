@@ -7,9 +7,6 @@ use Rattle.text.specs.Text.{places}
 use Rattle.text.specs.Laws.{places-few, Spelt, spelt-start, spelt-next, spelt-end}
 use Rattle.text.proofs.put_long.Goals as goal
 
-pub places-count-requires : goal.places-count-requires
-places-count-requires c = tt
-
 pub loop-left-init : goal.loop-left-init
 loop-left-init c = (c.places-count.ensures, spelt-start _ _ _ _)
 

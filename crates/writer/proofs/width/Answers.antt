@@ -25,9 +25,6 @@ offset_bounds-numbers-i c = omega arith
 pub bounds-numbers-i : goal.bounds-numbers-i
 bounds-numbers-i c = omega arith
 
-pub groups-g-requires : goal.groups-g-requires
-groups-g-requires c = tt
-
 pub overflow_add-sum : goal.overflow_add-sum
 overflow_add-sum c = omega (arith, c.groups-g.ensures.few)
 

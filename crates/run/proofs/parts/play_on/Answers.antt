@@ -35,15 +35,6 @@ loop-read-init c =
     let a = c.args in
     (ready-onward c.requires a.bytes.now a.next a.number a.out.now a.place, c.requires.beside, refl)
 
-pub goes_on-requires : goal.goes_on-requires
-goes_on-requires c = tt
-
-pub read_event-read-requires : goal.read_event-read-requires
-read_event-read-requires c = tt
-
-pub script_line-requires : goal.script_line-requires
-script_line-requires c = tt
-
 pub shape_of-words-then-read-ne0 : goal.shape_of-words-then-read-ne0
 shape_of-words-then-read-ne0 c = c.loop-read.invariant.0.words
 
@@ -67,9 +58,6 @@ returns-then-read-ne0 c =
     let from = part-from _ _ _ (onward-read _ _ _ inv.0 g read.result (turn-read _ _ _ inv.0 inv.1 read.result read.ensures) c.if-read-ne0.true _ _ c.script_line.ensures.value c.script_line.ensures.out_after) in
     record { value = from.0; words_after = from.1.0; out_after = from.1.1 }
 
-pub hearer-i-requires : goal.hearer-i-requires
-hearer-i-requires c = tt
-
 pub overflow_add-number : goal.overflow_add-number
 overflow_add-number c = omega (arith, (goes_number _ _ _ _ _ (sym c.goes_on.ensures ∙ c.loop-read-test.true)).0)
 
@@ -84,18 +72,12 @@ pass-p-requires c =
     let inv = c.loop-read.invariant in
     record { held = turn-held _ _ _ inv.0 inv.1; stations_bound = turn-nobody _ _ _ inv.0 inv.1 _ _ c.hearer-i.ensures c.if-i-n.true }
 
-pub note_places-requires : goal.note_places-requires
-note_places-requires c = tt
-
 pub note_signed-requires : goal.note_signed-requires
 note_signed-requires c =
     let inv = c.loop-read.invariant in
     let many = turn-plan _ _ _ inv.0 inv.1 _ _ _ c.pass-p.ensures.value in
     let few = turn-few _ _ _ inv.0 inv.1 in
     (omega (arith, many, few), omega (arith, many, few, inv.1.twelve))
-
-pub line_end-long-requires : goal.line_end-long-requires
-line_end-long-requires c = tt
 
 pub offset_bounds-line-i : goal.offset_bounds-line-i
 offset_bounds-line-i c = let inv = c.loop-read.invariant in omega (arith, c.if-i-n.false, turn-few _ _ _ inv.0 inv.1)
@@ -120,17 +102,11 @@ offset_bounds-signed-i c = let inv = c.loop-read.invariant in omega (arith, c.if
 pub bounds-signed-i : goal.bounds-signed-i
 bounds-signed-i c = let inv = c.loop-read.invariant in omega (arith, c.if-i-n.false, turn-few _ _ _ inv.0 inv.1, inv.1.twelve)
 
-pub line_end-long-requires-then-s-was : goal.line_end-long-requires-then-s-was
-line_end-long-requires-then-s-was c = tt
-
 pub slice_bounds-event_line-end : goal.slice_bounds-event_line-end
 slice_bounds-event_line-end c = let b = (turned c).beside in omega (arith, b.fits, b.room)
 
 pub slice_bounds-event_line-end-in-loop-read : goal.slice_bounds-event_line-end-in-loop-read
 slice_bounds-event_line-end-in-loop-read c = let b = (turned c).beside in sym (length-take-le _ _ (omega (arith, b.fits, b.room)))
-
-pub event_line-place-requires : goal.event_line-place-requires
-event_line-place-requires c = tt
 
 pub loop-read-smaller : goal.loop-read-smaller
 loop-read-smaller c = omega (arith, (goes_number _ _ _ _ _ (sym c.goes_on.ensures ∙ c.loop-read-test.true)).0)

@@ -11,9 +11,6 @@ use Rattle.run.proofs.parts.seated.Goals as goal
 pub loop-i-init : goal.loop-i-init
 loop-i-init c = (omega arith, seated-none c.args.l)
 
-pub station-s-requires : goal.station-s-requires
-station-s-requires c = tt
-
 pub offset_bounds-table-i : goal.offset_bounds-table-i
 offset_bounds-table-i c = omega (arith, c.requires)
 

@@ -11,12 +11,6 @@ use Rattle.script.proofs.read.read_numbers.Goals as goal
 pub loop-i-init : goal.loop-i-init
 loop-i-init c = taken_none _ _ _
 
-pub read_number-answer-requires : goal.read_number-answer-requires
-read_number-answer-requires c = tt
-
-pub refusal-requires : goal.refusal-requires
-refusal-requires c = tt
-
 pub returns-in_default : goal.returns-in_default
 unfolding refusal_of
 returns-in_default c =

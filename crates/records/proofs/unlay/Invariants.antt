@@ -1,0 +1,12 @@
+-- `records::unlay` lays one message after the other while the sheet keeps its length. The measure is how many are left. Assumes nothing.
+use Prim.Native.Nat.{◌-◌}
+use mathlib.Core.Path.{◌≡◌}
+use lib.ListN.{length}
+use borrow.Author.Rules.{rules}
+use Rattle.records.proofs.unlay.Given as goal
+
+abbrev pub invariant-loop-i : goal.invariant-loop-i
+invariant-loop-i l = length l.sheet ≡ length l.initial.sheet
+
+abbrev pub decreases-loop-i : goal.decreases-loop-i
+decreases-loop-i l = l.end - l.i
