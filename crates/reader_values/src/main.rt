@@ -2,7 +2,7 @@
 // ones.
 #![tactic(auto)]
 
-use libc::STDOUT_FILENO;
+use std::io;
 
 // Document 01's rehearsal script: a setup of 11 bytes and eight events of 5.
 const REHEARSAL: [u8; 51] = [
@@ -10,72 +10,77 @@ const REHEARSAL: [u8; 51] = [
     1, 0, 1, 1, 1, 3, 3, 3, 0, 2, 1, 0, 1, 0, 1, 1, 1, 1, 0,
 ];
 
-fn text(what: &[u8]) {
-    io::write_all(STDOUT_FILENO, what);
+fn text(rt: &impl Print, what: &[u8]) -> io::Result<()> {
+    rt.write_all(what)
 }
 
-fn show(n: u64) {
-    io::print_decimal(STDOUT_FILENO, n);
+fn show(rt: &impl Print, n: u64) -> io::Result<()> {
+    print!(rt; "{n}")
 }
 
-fn show_byte(byte: u8) {
-    text(b" ");
-    io::print_hex(STDOUT_FILENO, byte as u64, 2);
+fn show_byte(rt: &impl Print, byte: u8) -> io::Result<()> {
+    text(rt, b" ")?;
+    print!(rt; "{byte:02x}")
 }
 
-fn show_bytes(bytes: &[u8]) {
+fn show_bytes(rt: &impl Print, bytes: &[u8]) -> io::Result<()> {
     let mut i: usize = 0;
     while i < bytes.len() {
-        show_byte(bytes[i]);
+        show_byte(rt, bytes[i])?;
         i += 1;
     }
+    Ok(())
 }
 
 // The answer to reading an event at a place, the place then, and the rest. Answers that place.
-fn show_event(bytes: &[u8], at: usize, stations: u64) -> usize {
+fn show_event(rt: &impl Print, bytes: &[u8], at: usize, stations: u64) -> io::Result<usize> {
     let read = reader::event_at(bytes, at, stations);
-    show(read.answer);
-    text(b" ");
-    show(read.next as u64);
-    text(b":");
-    show_bytes(reader::rest_behind(bytes, at, stations));
-    text(b"\n");
-    read.next
+    show(rt, read.answer)?;
+    text(rt, b" ")?;
+    show(rt, read.next as u64)?;
+    text(rt, b":")?;
+    show_bytes(rt, reader::rest_behind(bytes, at, stations))?;
+    text(rt, b"\n")?;
+    Ok(read.next)
 }
 
 // The eight events of the rehearsal, one after the other, and what a ninth is answered.
-fn rehearsal() {
+fn rehearsal(rt: &impl Print) -> io::Result<()> {
     let script = REHEARSAL;
     let mut at: usize = 11;
     let mut i: usize = 0;
     while i < 9 {
-        at = show_event(&script, at, 3);
+        at = show_event(rt, &script, at, 3)?;
         i += 1;
     }
+    Ok(())
 }
 
-fn refused() {
-    show_event(&[0x80, 0x00], 0, 3);
-    show_event(&[0x80], 0, 3);
+fn refused(rt: &impl Print) -> io::Result<()> {
+    show_event(rt, &[0x80, 0x00], 0, 3)?;
+    show_event(rt, &[0x80], 0, 3)?;
     show_event(
+        rt,
         &[0xFF, 0xFF, 0xFF, 0xFF, 0xFF, 0xFF, 0xFF, 0xFF, 0xFF, 0x02],
         0,
         3,
-    );
-    show_event(&[0x04, 0x02, 0x01, 0x00, 0x01, 0x00], 0, 3);
-    show_event(&[0x02, 0x01, 0x00, 0x80, 0x00, 0x00], 0, 3);
-    show_event(&[0x02, 0x01, 0x00, 0x01], 0, 3);
-    show_event(&[0x02, 0x01, 0x00, 0x01, 0x00], 9, 3);
-    show_event(&[0x02, 0x01, 0x00, 0x01, 0x00], 0, 13);
+    )?;
+    show_event(rt, &[0x04, 0x02, 0x01, 0x00, 0x01, 0x00], 0, 3)?;
+    show_event(rt, &[0x02, 0x01, 0x00, 0x80, 0x00, 0x00], 0, 3)?;
+    show_event(rt, &[0x02, 0x01, 0x00, 0x01], 0, 3)?;
+    show_event(rt, &[0x02, 0x01, 0x00, 0x01, 0x00], 9, 3)?;
+    show_event(rt, &[0x02, 0x01, 0x00, 0x01, 0x00], 0, 13)?;
+    Ok(())
 }
 
 // Behind an event that is read to its end the rest is what stands there.
-fn whole() {
-    show_event(&[0x02, 0x01, 0x00, 0x80, 0x01, 0x00, 0x07, 0x09], 0, 3);
+fn whole(rt: &impl Print) -> io::Result<()> {
+    show_event(rt, &[0x02, 0x01, 0x00, 0x80, 0x01, 0x00, 0x07, 0x09], 0, 3)?;
+    Ok(())
 }
 
-fn main() {
-    rehearsal();
-    refused();
-    whole();
+fn main(rt: HostRuntime) -> io::Result<()> {
+    rehearsal(&rt)?;
+    refused(&rt)?;
+    whole(&rt)
 }
