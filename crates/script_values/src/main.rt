@@ -2,8 +2,8 @@
 // document 01's rehearsal script gives.
 #![tactic(auto)]
 
-use libc::STDOUT_FILENO;
 use number::Number;
+use std::io::Result;
 use writer::Written;
 
 // Document 01's rehearsal script: a setup of 11 bytes and eight events of 5.
@@ -12,106 +12,118 @@ const REHEARSAL: [u8; 51] = [
     1, 0, 1, 1, 1, 3, 3, 3, 0, 2, 1, 0, 1, 0, 1, 1, 1, 1, 0,
 ];
 
-fn text(what: &[u8]) {
-    io::write_all(STDOUT_FILENO, what);
+fn text(rt: &impl Print, what: &str) -> Result<()> {
+    print!(rt; "{what}")
 }
 
-fn show(n: u64) {
-    io::print_decimal(STDOUT_FILENO, n);
+fn show(rt: &impl Print, n: u64) -> Result<()> {
+    print!(rt; "{n}")
 }
 
 // What reading the first number of the bytes answers.
-fn show_read(bytes: &[u8]) {
+fn show_read(rt: &impl Print, bytes: &[u8]) -> Result<()> {
     let answer = number::read_number(bytes, 0);
     match answer {
         Number::Value(v, next) => {
-            show(v);
-            text(b" in ");
-            show(next as u64);
+            show(rt, v)?;
+            text(rt, " in ")?;
+            show(rt, next as u64)?;
         }
         Number::Refused(n) => {
-            text(b"refused ");
-            show(n);
+            text(rt, "refused ")?;
+            show(rt, n)?;
         }
     }
-    text(b"\n");
+    text(rt, "\n")?;
+    Ok(())
 }
 
-fn show_byte(byte: u8) {
-    io::print_hex(STDOUT_FILENO, byte as u64, 2);
-    text(b" ");
+fn show_byte(rt: &impl Print, byte: u8) -> Result<()> {
+    print!(rt; "{byte:02x} ")
 }
 
-fn show_bytes(bytes: &[u8]) {
+fn show_bytes(rt: &impl Print, bytes: &[u8]) -> Result<()> {
     let mut i: usize = 0;
     while i < bytes.len() {
-        show_byte(bytes[i]);
+        show_byte(rt, bytes[i])?;
         i += 1;
     }
+    Ok(())
 }
 
 // A number written, the buffer then, and what it reads as.
-fn there_and_back(v: u64) {
+fn there_and_back(rt: &impl Print, v: u64) -> Result<()> {
     let mut buffer = [0xEEu8; 12];
     let answer = writer::write_number(v, &mut buffer, 0);
     let Written::Bytes(_) = answer else {
-        text(b"not written\n");
-        return;
+        return text(rt, "not written\n");
     };
-    show_bytes(&buffer);
-    text(b"= ");
-    show_read(&buffer);
+    show_bytes(rt, &buffer)?;
+    text(rt, "= ")?;
+    show_read(rt, &buffer)?;
+    Ok(())
 }
 
-fn numbers() {
-    there_and_back(0);
-    there_and_back(127);
-    there_and_back(128);
-    there_and_back(16_384);
-    there_and_back(18_446_744_073_709_551_615);
-    show_read(&[0xFF, 0xFF, 0xFF, 0xFF, 0xFF, 0xFF, 0xFF, 0xFF, 0xFF, 0x02]);
-    show_read(&[0x80, 0x80, 0x80, 0x80, 0x80, 0x80, 0x80, 0x80, 0x80, 0x00]);
-    show_read(&[0x80, 0x00]);
-    show_read(&[0x80]);
-    show_read(&[0x00; 0]);
+fn numbers(rt: &impl Print) -> Result<()> {
+    there_and_back(rt, 0)?;
+    there_and_back(rt, 127)?;
+    there_and_back(rt, 128)?;
+    there_and_back(rt, 16_384)?;
+    there_and_back(rt, 18_446_744_073_709_551_615)?;
+    show_read(
+        rt,
+        &[0xFF, 0xFF, 0xFF, 0xFF, 0xFF, 0xFF, 0xFF, 0xFF, 0xFF, 0x02],
+    )?;
+    show_read(
+        rt,
+        &[0x80, 0x80, 0x80, 0x80, 0x80, 0x80, 0x80, 0x80, 0x80, 0x00],
+    )?;
+    show_read(rt, &[0x80, 0x00])?;
+    show_read(rt, &[0x80])?;
+    show_read(rt, &[0x00; 0])?;
+    Ok(())
 }
 
 // What writing 128 at a place of a buffer of three bytes answers.
-fn show_room(at: usize) {
+fn show_room(rt: &impl Print, at: usize) -> Result<()> {
     let mut buffer = [0u8; 3];
     let answer = writer::write_number(128, &mut buffer, at);
     match answer {
         Written::Bytes(n) => {
-            text(b"written ");
-            show(n as u64);
+            text(rt, "written ")?;
+            show(rt, n as u64)?;
         }
         Written::Refused(n) => {
-            text(b"refused ");
-            show(n);
+            text(rt, "refused ")?;
+            show(rt, n)?;
         }
     }
-    text(b"\n");
+    text(rt, "\n")?;
+    Ok(())
 }
 
 // What reading an event of three stations answers.
-fn show_event(bytes: &[u8], at: usize) {
+fn show_event(rt: &impl Print, bytes: &[u8], at: usize) -> Result<()> {
     let read = script::read_event(bytes, at, 3);
-    show(read.answer);
-    text(b" ");
-    show(read.next as u64);
-    text(b"\n");
+    show(rt, read.answer)?;
+    text(rt, " ")?;
+    show(rt, read.next as u64)?;
+    text(rt, "\n")?;
+    Ok(())
 }
 
-fn kinds() {
-    show_event(&[0x00], 0);
-    show_event(&[0x04], 0);
+fn kinds(rt: &impl Print) -> Result<()> {
+    show_event(rt, &[0x00], 0)?;
+    show_event(rt, &[0x04], 0)?;
     show_event(
+        rt,
         &[0xFF, 0xFF, 0xFF, 0xFF, 0xFF, 0xFF, 0xFF, 0xFF, 0xFF, 0x01],
         0,
-    );
-    show_event(&[0x02, 0x01, 0x00, 0x01, 0x00], 0);
-    show_event(&[0x02, 0x01, 0x00, 0x01], 0);
-    show_event(&[0x02], 9);
+    )?;
+    show_event(rt, &[0x02, 0x01, 0x00, 0x01, 0x00], 0)?;
+    show_event(rt, &[0x02, 0x01, 0x00, 0x01], 0)?;
+    show_event(rt, &[0x02], 9)?;
+    Ok(())
 }
 
 // How many events of a script were read whole, and what stopped the reading, 0 where nothing did.
@@ -143,17 +155,18 @@ fn counted(bytes: &[u8], from: usize, stations: u64) -> Events {
 }
 
 // The first bytes of the rehearsal: the setup's answer, how many events are whole, and what stops the reading.
-fn show_cut(bytes: &[u8]) {
+fn show_cut(rt: &impl Print, bytes: &[u8]) -> Result<()> {
     let setup = script::read_setup(bytes, 0);
     let read = counted(bytes, setup.next, setup.plan.stations);
-    show(bytes.len() as u64);
-    text(b": ");
-    show(setup.answer);
-    text(b" ");
-    show(read.whole);
-    text(b" ");
-    show(read.stop);
-    text(b"\n");
+    show(rt, bytes.len() as u64)?;
+    text(rt, ": ")?;
+    show(rt, setup.answer)?;
+    text(rt, " ")?;
+    show(rt, read.whole)?;
+    text(rt, " ")?;
+    show(rt, read.stop)?;
+    text(rt, "\n")?;
+    Ok(())
 }
 
 // One event more, where it was read whole.
@@ -167,22 +180,24 @@ fn one_more(whole: u64, answer: u64) -> u64 {
     whole + 1
 }
 
-fn cuts() {
+fn cuts(rt: &impl Print) -> Result<()> {
     let script = REHEARSAL;
     let mut k: usize = 0;
     while k < 52 {
-        show_cut(&script[..k]);
+        show_cut(rt, &script[..k])?;
         k += 1;
     }
+    Ok(())
 }
 
-fn main() {
-    numbers();
-    show_room(0);
-    show_room(1);
-    show_room(2);
-    show_room(3);
-    show_room(18_446_744_073_709_551_615);
-    kinds();
-    cuts();
+fn main(rt: HostRuntime) -> Result<()> {
+    numbers(&rt)?;
+    show_room(&rt, 0)?;
+    show_room(&rt, 1)?;
+    show_room(&rt, 2)?;
+    show_room(&rt, 3)?;
+    show_room(&rt, 18_446_744_073_709_551_615)?;
+    kinds(&rt)?;
+    cuts(&rt)?;
+    Ok(())
 }

@@ -2,8 +2,8 @@
 // the answer.
 #![tactic(auto)]
 
-use libc::STDOUT_FILENO;
 use setup::Plan;
+use std::io::Result;
 
 // Document 01's base: n 4, f 1, r 1, T 2,000, D 2,201, A 4,202, P 1,000,000, no faulty.
 fn base() -> Plan {
@@ -19,11 +19,8 @@ fn base() -> Plan {
     }
 }
 
-fn line(what: &[u8], answer: u64) {
-    io::write_all(STDOUT_FILENO, what);
-    io::write_all(STDOUT_FILENO, b": ");
-    io::print_decimal(STDOUT_FILENO, answer);
-    io::write_all(STDOUT_FILENO, b"\n");
+fn line(rt: &impl Print, what: &str, answer: u64) -> Result<()> {
+    println!(rt; "{what}: {answer}")
 }
 
 // A plan for four stations, each first reading 4,202.
@@ -32,109 +29,122 @@ fn four(plan: Plan) -> u64 {
 }
 
 // The rules of the plan, at the values that document 01 gives.
-fn rules() {
-    line(b"base", four(base()));
+fn rules(rt: &impl Print) -> Result<()> {
+    line(rt, "base", four(base()))?;
     let mut plan = base();
     plan.spread = 2_200;
-    line(b"D 2200", four(plan));
+    line(rt, "D 2200", four(plan))?;
     plan.step = 4_200;
-    line(b"D 2200, A 4200", four(plan));
+    line(rt, "D 2200, A 4200", four(plan))?;
     plan = base();
     plan.step = 4_201;
-    line(b"A 4201", four(plan));
+    line(rt, "A 4201", four(plan))?;
     plan = base();
     plan.period = 6_203;
-    line(b"P 6203", four(plan));
+    line(rt, "P 6203", four(plan))?;
     plan.period = 6_202;
-    line(b"P 6202", four(plan));
+    line(rt, "P 6202", four(plan))?;
+    Ok(())
 }
 
 // The first readings: one at A + T, one past it, eleven for twelve stations.
-fn readings() {
+fn readings(rt: &impl Print) -> Result<()> {
     line(
-        b"first reading 6202",
+        rt,
+        "first reading 6202",
         setup::answer(base(), &[4_202, 4_202, 4_202, 6_202]),
-    );
+    )?;
     line(
-        b"first reading 6203",
+        rt,
+        "first reading 6203",
         setup::answer(base(), &[4_202, 4_202, 4_202, 6_203]),
-    );
+    )?;
     let mut plan = base();
     plan.stations = 12;
-    line(b"n 12", setup::answer(plan, &[4_202; 12]));
-    line(b"n 12, eleven readings", setup::answer(plan, &[4_202; 11]));
+    line(rt, "n 12", setup::answer(plan, &[4_202; 12]))?;
     line(
-        b"n 12, thirteen readings",
+        rt,
+        "n 12, eleven readings",
+        setup::answer(plan, &[4_202; 11]),
+    )?;
+    line(
+        rt,
+        "n 12, thirteen readings",
         setup::answer(plan, &[4_202; 13]),
-    );
-    line(b"no readings", setup::answer(base(), &[4_202; 0]));
+    )?;
+    line(rt, "no readings", setup::answer(base(), &[4_202; 0]))?;
     plan = base();
     plan.faulty = 8;
     line(
-        b"station 3 faulty, reading 0",
+        rt,
+        "station 3 faulty, reading 0",
         setup::answer(plan, &[4_202, 4_202, 4_202, 0]),
-    );
+    )?;
     line(
-        b"station 3 faulty, reading 4202",
+        rt,
+        "station 3 faulty, reading 4202",
         setup::answer(plan, &[4_202; 4]),
-    );
+    )?;
+    Ok(())
 }
 
 // Stations, tolerated faults and faulty marks.
-fn stations() {
+fn stations(rt: &impl Print) -> Result<()> {
     let mut plan = base();
     plan.stations = 0;
-    line(b"n 0", setup::answer(plan, &[4_202; 0]));
+    line(rt, "n 0", setup::answer(plan, &[4_202; 0]))?;
     plan.stations = 13;
-    line(b"n 13", setup::answer(plan, &[4_202; 13]));
+    line(rt, "n 13", setup::answer(plan, &[4_202; 13]))?;
     plan.stations = 2;
-    line(b"n 2, f 1", setup::answer(plan, &[4_202; 2]));
+    line(rt, "n 2, f 1", setup::answer(plan, &[4_202; 2]))?;
     plan.stations = 1;
     plan.faults = 0;
-    line(b"n 1, f 0", setup::answer(plan, &[4_202; 1]));
+    line(rt, "n 1, f 0", setup::answer(plan, &[4_202; 1]))?;
     plan = base();
     plan.faults = 9_223_372_036_854_775_808;
-    line(b"f 2^63", four(plan));
+    line(rt, "f 2^63", four(plan))?;
     plan.faults = 18_446_744_073_709_551_615;
-    line(b"f 2^64 - 1", four(plan));
+    line(rt, "f 2^64 - 1", four(plan))?;
     plan = base();
     plan.faulty = 9_223_372_036_854_775_808;
-    line(b"mark 63", four(plan));
+    line(rt, "mark 63", four(plan))?;
     plan.faulty = 16;
-    line(b"mark 4", four(plan));
+    line(rt, "mark 4", four(plan))?;
     plan.faulty = 3;
-    line(b"marks 0 and 1", four(plan));
+    line(rt, "marks 0 and 1", four(plan))?;
+    Ok(())
 }
 
 // Just past each limit.
-fn past() {
+fn past(rt: &impl Print) -> Result<()> {
     let mut plan = base();
     plan.drift = 101;
-    line(b"r 101", four(plan));
+    line(rt, "r 101", four(plan))?;
     plan = base();
     plan.bound = 0;
-    line(b"T 0", four(plan));
+    line(rt, "T 0", four(plan))?;
     plan.bound = 1_000_001;
-    line(b"T 1000001", four(plan));
+    line(rt, "T 1000001", four(plan))?;
     plan = base();
     plan.spread = 0;
-    line(b"D 0", four(plan));
+    line(rt, "D 0", four(plan))?;
     plan.spread = 1_000_001;
-    line(b"D 1000001", four(plan));
+    line(rt, "D 1000001", four(plan))?;
     plan = base();
     plan.step = 0;
-    line(b"A 0", four(plan));
+    line(rt, "A 0", four(plan))?;
     plan.step = 10_000_001;
-    line(b"A 10000001", four(plan));
+    line(rt, "A 10000001", four(plan))?;
     plan = base();
     plan.period = 0;
-    line(b"P 0", four(plan));
+    line(rt, "P 0", four(plan))?;
     plan.period = 100_000_001;
-    line(b"P 100000001", four(plan));
+    line(rt, "P 100000001", four(plan))?;
+    Ok(())
 }
 
 // At the limits: the largest numbers, the smallest that pass, and one less.
-fn limits() {
+fn limits(rt: &impl Print) -> Result<()> {
     let mut plan = base();
     plan.drift = 0;
     plan.bound = 1_000_000;
@@ -142,30 +152,34 @@ fn limits() {
     plan.step = 10_000_000;
     plan.period = 100_000_000;
     line(
-        b"r 0, T, D, A, P largest",
+        rt,
+        "r 0, T, D, A, P largest",
         setup::answer(plan, &[11_000_000; 4]),
-    );
+    )?;
     plan.drift = 100;
     line(
-        b"r, T, D, A, P largest",
+        rt,
+        "r, T, D, A, P largest",
         setup::answer(plan, &[11_000_000; 4]),
-    );
+    )?;
     plan.drift = 0;
     plan.bound = 1;
     plan.spread = 1;
     plan.step = 2;
     plan.period = 4;
-    line(b"r 0, T 1, D 1, A 2, P 4", setup::answer(plan, &[3; 4]));
+    line(rt, "r 0, T 1, D 1, A 2, P 4", setup::answer(plan, &[3; 4]))?;
     plan.period = 3;
-    line(b"r 0, T 1, D 1, A 2, P 3", setup::answer(plan, &[3; 4]));
+    line(rt, "r 0, T 1, D 1, A 2, P 3", setup::answer(plan, &[3; 4]))?;
     plan.step = 1;
-    line(b"r 0, T 1, D 1, A 1, P 3", setup::answer(plan, &[2; 4]));
+    line(rt, "r 0, T 1, D 1, A 1, P 3", setup::answer(plan, &[2; 4]))?;
+    Ok(())
 }
 
-fn main() {
-    rules();
-    readings();
-    stations();
-    past();
-    limits();
+fn main(rt: HostRuntime) -> Result<()> {
+    rules(&rt)?;
+    readings(&rt)?;
+    stations(&rt)?;
+    past(&rt)?;
+    limits(&rt)?;
+    Ok(())
 }
