@@ -3,28 +3,34 @@
 use Rattle.std.specs.Prelude.{◌≡◌, refl, ℕ, List, [], ◌∷◌, length}
 use Rattle.std.proofs.Common.{sym, ◌∙◌, ap, subst}
 use seplogic.Ra.Ura.{Ura}
-use seplogic.Ra.TreeShare.{full_share}
+use base.Fraction.{full_share}
 use mir.Syntax.{Lifetime}
 use mir.Val.{Val}
-use base.Fml.{Lft, GName, Share, Fml, fsep, flft, fdead, fobs, fauth, flent, fobor}
-use types.Logic.{Logic}
-use types.Kit.{Goal, Soaks, Item, ‵, ◌⊛◌, some, later, Seq, Step, step, ◌$◌, move, use1, use3, drop, split, pick, rewrite, fsplit, fjoin, feq_i, await}
+use base.Logic.{ent, sep}
+use base.Fml.{Lft, GName, Share, Fml, fsep, flft, fdead, fobs, fauth, flent, fobor, fhide}
+use types.Logic.{Logic, sem}
+use types.Kit.{Goal, Soaks, Item, ‵, ◌⊛◌, some, later, Seq, Step, step, ◌$◌, ◌∵◌, !, qed, done, move, use1, use3, drop, split, pick, rewrite, fsplit, fjoin, feq_i, await}
 use types.Tokens.{lent_back}
 use types.SemTy.{cells, Arr}
 use types.Share.{arr_parts}
 use denote.Shadow.{pure_l, pure_i}
 use denote.Memory.{mem, shares}
-use Rattle.std.specs.Borrow.{MutBor}
-use denote.Slice.{slice_val, MutSlice, ShrSlice, heres, Room, finally, mut_slice_at, coded_holeys}
-use denote.Lend.{Held, lends_slice, slice_back, lends_shr_slice}
+use Rattle.std.specs.Borrow.{Bor, MutBor}
+use denote.Copied.{each_lends}
+use denote.Lends.{Lent-map}
+use denote.Slice.{slice_val, MutSlice, ShrSlice, heres, Room, finally, mut_slice_at, shr_slice_at, coded_holeys, elements_shared}
+use denote.Lend.{Held, lends_slice, slice_back}
 use denote.Index.{row, whole_out, whole_in, opens_slice, closes_slice}
 use Rattle.station.specs.declared.Station.{Station}
-use Rattle.seating.specs.Stations.{R}
+use Rattle.seating.specs.Stations.{R, copied}
 
 module _ (κ : Lft) (q : Share) (γ : GName) (b o : ℕ) where
-  -- the reference under a name, at a list of stations; and its value
+  -- the reference under a name, at a list of stations; one that is shared; and the value of both
   abbrev pub named_table : GName → List Station → MutBor (List Station)
   named_table δ ys = record { ref_ptr = (b, o); ghost_name = δ; now = ys }
+
+  abbrev pub shared_table : List Station → Bor (List Station)
+  shared_table ys = record { ref_ptr = (b, o); now = ys }
 
   abbrev pub slice : List Station → List Val
   slice ys = slice_val (b, o) (length ys) ∷ []
@@ -44,6 +50,16 @@ module _ (κ : Lft) (q : Share) (γ : GName) (b o : ℕ) where
 
   abbrev pub Lent : Lft → List Station → GName → Fml
   Lent κ' ys δ = flent κ' (Held R (length ys) b o δ)
+
+  module _ {M : Type 1} {𝓤 : Ura M} (𝓛 : Logic 𝓤) where
+    -- the stations in memory become what a `&` to each holds, with the lender's right to them
+    shared-out : (κ' : Lft) (ys : List Station) → ent 𝓤 (sem 𝓛 ((arr_parts (shares R) (length ys)).part full_share ys b o))
+        (𝓛.H.⇛ (sep 𝓤 (sem 𝓛 (elements_shared R ys b o κ')) (sem 𝓛 (Shared κ' ys))))
+    shared-out κ' ys =
+        Lent-map 𝓛 ((arr_parts (shares R) (length ys)).part full_share ys b o) (row R full_share ys b o) (elements_shared R ys b o)
+        (qed 𝓛 (‵ ((arr_parts (shares R) (length ys)).part full_share ys b o) ∷ []) ∵ fsplit ! $ drop ! $ done !)
+        (qed 𝓛 (‵ (row R full_share ys b o) ∷ []) ∵ feq_i ! ℕ (length ys) (length ys) refl $ fjoin ! $ done !)
+        (each_lends 𝓛 R (copied 𝓛) full_share ys b o) κ'
 
   module _ {M : Type 1} {𝓤 : Ura M} {𝓛 : Logic 𝓤} {K : Type 0} {Γ : List (Item 𝓤)} {G : Goal 𝓤 𝓛.H} where
     -- the borrow is opened, and what its value says is learned
@@ -67,14 +83,12 @@ module _ (κ : Lft) (q : Share) (γ : GName) (b o : ℕ) where
 
     -- lent as `&`, and back
     pub shares-table : K → Soaks G → (ℓ ℓ' : Lifetime) (κ' : Lft) (ys : List Station) (vs : List Val)
-        → ((δ : GName) → Is-slice ys vs → Seq K 𝓛 (‵ ((ShrSlice ℓ' κ' R).own_val (named_table δ ys) vs) ∷ ‵ (Shared κ' ys) ∷ ‵ (Waits ys) ∷ Γ) G)
+        → (Is-slice ys vs → Seq K 𝓛 (‵ ((ShrSlice ℓ' κ' R).own_val (shared_table ys) vs) ∷ ‵ (Shared κ' ys) ∷ ‵ (Waits ys) ∷ Γ) G)
         → Seq K 𝓛 (‵ ((MutSlice ℓ κ R).own_val (named_table γ ys) vs) ∷ ‵ (flft κ q) ∷ Γ) G
     shares-table t z ℓ ℓ' κ' ys vs k =
         opened t z ℓ ys vs (λ p. feq_i t ℕ (length ys) (length ys) refl $ fjoin t $
-        use1 𝓛 (later (some (λ (δ : GName). ‵ ((ShrSlice ℓ' κ' R).own_val (named_table δ ys) (slice ys)) ⊛ ‵ (Shared κ' ys))))
-        (lends_shr_slice 𝓛 R ℓ' κ' full_share ys b o p.1) $
-        await t z $ pick t (λ δ. split t $ rewrite t 0 (λ (us : List Val). ‵ ((ShrSlice ℓ' κ' R).own_val (named_table δ ys) us)) (sym p.0) refl $
-        k δ p))
+        use1 𝓛 (later (‵ (fhide (elements_shared R ys b o κ')) ⊛ ‵ (Shared κ' ys))) (shared-out 𝓛 κ' ys) $ await t z $ split t $
+        pure_i t (shr_slice_at R (shared_table ys) vs) (tt, (tt, tt)) p $ fjoin t $ k p)
 
     pub shared-home : K → Soaks G → (ℓ : Lifetime) (κ' : Lft) (ys : List Station) (vs : List Val) → Is-slice ys vs
         → Step K 𝓛 (‵ ((MutSlice ℓ κ R).own_val (named_table γ ys) vs) ∷ ‵ (flft κ q) ∷ Γ) G (‵ (fdead κ') ∷ ‵ (Shared κ' ys) ∷ ‵ (Waits ys) ∷ Γ) G

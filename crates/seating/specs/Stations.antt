@@ -6,7 +6,7 @@ use mathlib.Core.WellFounded.{WellFounded}
 use lib.WfN.{lt-wf_rel}
 use Rattle.std.proofs.Common.{arith}
 use seplogic.Ra.Ura.{Ura}
-use seplogic.Ra.TreeShare.{full_share}
+use base.Fraction.{full_share}
 use mir.Syntax.{Ty, ty_unit, Local, local}
 use mir.Val.{Val, has_ty, WT}
 use base.Fml.{fat, froom, fdies}
@@ -15,6 +15,7 @@ use types.Logic.{Logic}
 use types.Kit.{Item, ‵}
 use Rattle.std.specs.Borrow.{RattleType}
 use denote.Laws.{Is, Tells, Makes, Copy}
+use denote.Copied.{Copied}
 use denote.Slice.{Room}
 use denote.Index.{place, place_is}
 use denote.Struct.Laws as LL
@@ -66,6 +67,9 @@ module _ {M : Type 1} {𝓤 : Ura M} (𝓛 : Logic 𝓤) where
   module _ where
     abbrev pub copy : Copy 𝓛 R
     copy = LL.copy S.the_type S'.the_copy 𝓛
+
+    abbrev pub copied : Copied 𝓛 R
+    copied = LL.copied S.the_type S'.the_copy 𝓛
 
     pub typed : (s : Station) (v : Val) → Is R s (v ∷ []) → T (has_ty S'.mir v) × WT v
     typed s v p = ((LL.lawful S.the_type S'.the_laws 𝓛).typed s (v ∷ []) p).0

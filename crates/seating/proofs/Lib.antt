@@ -1,2 +1,0 @@
--- What the walks share: the two calls that are made on one station of the table.
-pub mod Through
