@@ -5,7 +5,7 @@
 ghost use Rattle.std.specs.Prelude.{◌≡◌};
 ghost use Rattle.seating.specs.Seating.{line_of};
 ghost use Rattle.table.specs.Table as lent;
-ghost use Rattle.table.specs.Core as core;
+ghost use Rattle.table.specs.Core as middle;
 
 use clock::Moment;
 use event::Event;
@@ -30,7 +30,7 @@ fn starting(plan: Plan) -> Rest
 
 // No run: nothing planned, and the stations as they were.
 fn no_run(l: Line) -> Line
-    ensures { result ≡ core.no_run l }
+    ensures { result ≡ middle.no_run l }
 {
     let stations = l.stations;
     Line {
@@ -53,7 +53,7 @@ fn no_run(l: Line) -> Line
 
 // The fresh run of a setup in the place of what the table held: 1 to 8, then 10 for the table's length.
 fn begin(held: Line, first: &[u64]) -> Played
-    ensures { result ≡ core.begins held first.now }
+    ensures { result ≡ middle.begins held first.now }
 {
     let begun = line::fresh(held.plan, first);
     if begun.answer != 0 {
@@ -125,7 +125,7 @@ pub enum Told {
 
 // A question to the run by value.
 fn tell(l: Line, words: &[u64], question: Question) -> Told
-    ensures { result ≡ core.told l words.now question }
+    ensures { result ≡ middle.told l words.now question }
 {
     match question {
         Question::Reading(i) => Told::Shown(line::reading(l, words, i)),
@@ -136,7 +136,7 @@ fn tell(l: Line, words: &[u64], question: Question) -> Told
 
 // A question to the run on the table: 10, then 31, then 32.
 pub fn ask(rest: Rest, table: &[Station], words: &[u64], question: Question) -> Told
-    ensures { result ≡ core.told (line_of rest table.now) words.now question }
+    ensures { result ≡ middle.told (line_of rest table.now) words.now question }
 {
     tell(seating::load(rest, table), words, question)
 }
