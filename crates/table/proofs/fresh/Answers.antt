@@ -2,7 +2,7 @@
 use Rattle.std.proofs.Common.{ap, ◌∙◌}
 use Rattle.seating.specs.declared.Rest.{Rest}
 use Rattle.seating.specs.Seating.{line_of}
-use Rattle.table.specs.Same.{fresh-comes}
+use Rattle.table.proofs.Same.{fresh-comes}
 use Rattle.table.proofs.fresh.Goals as goal
 
 pub returns : goal.returns

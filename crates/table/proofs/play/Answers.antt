@@ -1,5 +1,5 @@
 -- The event is played by value on the stations taken out, and they are put back.
-use Rattle.table.specs.Same.{event-comes}
+use Rattle.table.proofs.Same.{event-comes}
 use Rattle.table.proofs.play.Goals as goal
 
 pub returns : goal.returns
