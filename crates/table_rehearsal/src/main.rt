@@ -6,6 +6,7 @@ use event::Event;
 use line::Line;
 use seating::Rest;
 use setup::Plan;
+use std::io::Result;
 use table::{Seats, Turned};
 
 // The run as its line shows it.
@@ -23,67 +24,88 @@ fn line_of(rest: Rest, seats: Seats) -> Line {
 }
 
 // Event number, answer and the first `long` bytes of the end of its line.
-fn show_line(number: u64, answer: u64, end: &[u8], long: usize) {
+fn show_line(rt: &impl Print, number: u64, answer: u64, end: &[u8], long: usize) -> Result<()> {
     if long <= end.len() {
         let mut out = [0u8; 320];
         let count = text::event_line(number, answer, &end[..long], &mut out, 0);
-        paper::print(&out, count);
+        paper::print(rt, &out, count)?;
     }
+    Ok(())
 }
 
 // Event number, answer, real time and the round of each station.
-fn show(number: u64, turned: Turned) {
+fn show(rt: &impl Print, number: u64, turned: Turned) -> Result<()> {
     let mut end = [0u8; 320];
     let answered = turned.answered;
     let rest = answered.rest;
     let seats = turned.seats;
     let long = text::line_end(line_of(rest, seats), &mut end);
-    show_line(number, answered.answer, &end, long);
+    show_line(rt, number, answered.answer, &end, long)
 }
 
 // An event on the table, and its line.
 fn play(
+    rt: &impl Print,
     number: u64,
     before: Turned,
     words: &mut [u64],
     event: Event,
     increments: &[u64],
-) -> Turned {
+) -> Result<Turned> {
     let answered = before.answered;
     let rest = answered.rest;
     let seats = before.seats;
     let after = table::play_on(seats, rest, words, event, increments);
-    show(number, after);
-    after
+    show(rt, number, after)?;
+    Ok(after)
 }
 
 // Advance by d with one increment for the two sound stations.
-fn advance(number: u64, before: Turned, words: &mut [u64], d: u64) -> Turned {
+fn advance(
+    rt: &impl Print,
+    number: u64,
+    before: Turned,
+    words: &mut [u64],
+    d: u64,
+) -> Result<Turned> {
     let increments = [d, d, 0];
-    play(number, before, words, Event::Advance(d), &increments)
+    play(rt, number, before, words, Event::Advance(d), &increments)
 }
 
-fn deliver(number: u64, before: Turned, words: &mut [u64], kind: u64) -> Turned {
+fn deliver(
+    rt: &impl Print,
+    number: u64,
+    before: Turned,
+    words: &mut [u64],
+    kind: u64,
+) -> Result<Turned> {
     let event = Event::Deliver {
         sender: 1,
         recipient: 0,
         round: 1,
         kind: kind,
     };
-    play(number, before, words, event, &[0u64; 0])
+    play(rt, number, before, words, event, &[0u64; 0])
 }
 
-fn send(number: u64, before: Turned, words: &mut [u64], recipient: u64, signers: u64) -> Turned {
+fn send(
+    rt: &impl Print,
+    number: u64,
+    before: Turned,
+    words: &mut [u64],
+    recipient: u64,
+    signers: u64,
+) -> Result<Turned> {
     let event = Event::Send {
         sender: 2,
         recipient: recipient,
         round: 1,
         signers: signers,
     };
-    play(number, before, words, event, &[0u64; 0])
+    play(rt, number, before, words, event, &[0u64; 0])
 }
 
-fn main() {
+fn main(rt: HostRuntime) -> Result<()> {
     let plan = Plan {
         stations: 3,
         faults: 1,
@@ -104,14 +126,15 @@ fn main() {
     let answered = begun.answered;
     let mut out = [0u8; 320];
     let count = text::setup_line(answered.answer, &mut out, 0);
-    paper::print(&out, count);
+    paper::print(&rt, &out, count)?;
     let mut words = [0u64; 3072];
-    let one = advance(1, begun, &mut words, 2);
-    let two = advance(2, one, &mut words, 3);
-    let three = send(3, two, &mut words, 0, 1);
-    let four = send(4, three, &mut words, 1, 4);
-    let five = deliver(5, four, &mut words, 1);
-    let six = advance(6, five, &mut words, 3);
-    let seven = deliver(7, six, &mut words, 0);
-    advance(8, seven, &mut words, 1);
+    let one = advance(&rt, 1, begun, &mut words, 2)?;
+    let two = advance(&rt, 2, one, &mut words, 3)?;
+    let three = send(&rt, 3, two, &mut words, 0, 1)?;
+    let four = send(&rt, 4, three, &mut words, 1, 4)?;
+    let five = deliver(&rt, 5, four, &mut words, 1)?;
+    let six = advance(&rt, 6, five, &mut words, 3)?;
+    let seven = deliver(&rt, 7, six, &mut words, 0)?;
+    advance(&rt, 8, seven, &mut words, 1)?;
+    Ok(())
 }
