@@ -1,4 +1,4 @@
--- What every walk over a table speaks of: a function's locals, the turns of a loop over the places, a station's type and value
+-- What a walk over a table speaks of: a function's locals, the turns of a loop over the places, a station's type and value
 -- with the laws of both, and where station i lies, of 32 bytes each.
 use Rattle.std.specs.Prelude.{◌≡◌, ℕ, zero, suc, ◌+◌, ◌-◌, ◌*◌, ◌<◌, ◌^◌, List, [], ◌∷◌, T}
 use mathlib.Core.WellFounded.InvImage

@@ -1,4 +1,4 @@
--- The run that goes by value, as the walks over the table call it: what a fresh run and a question come to on the record that the
+-- The run that goes by value, as it is called on a table: what a fresh run and a question come to on the record that the
 -- stations are taken into.
 use Rattle.std.specs.Prelude.{ℕ, Bool, true, List, ◌≡◌}
 use Rattle.std.proofs.Math.Bool.{false}
