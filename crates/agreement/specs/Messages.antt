@@ -10,7 +10,7 @@ use Rattle.clock.specs.Limits.{parts, max_stations}
 use Rattle.clock.specs.Drift.{rate}
 use Rattle.clock.specs.Pick.{pick}
 use Rattle.mask.specs.Mask.{has, count, count_to, one, join, only}
-use Rattle.mask.specs.Laws.{count-below, count_none, has_join, has-only, join-lt}
+use Rattle.mask.proofs.Laws.{count-below, count_none, has_join, has-only, join-lt}
 use Rattle.setup.specs.declared.Plan.{Plan}
 use Rattle.setup.specs.Laws.{Planned}
 use Rattle.station.specs.declared.Station.{Station}

@@ -9,7 +9,7 @@ use Rattle.std.proofs.Math.Decide.{dec_lt, dec_le}
 use native.Mathlib.Omega.{arith}
 use borrow.Author.Tests.{eqb-true, eqb-false}
 use Rattle.mask.specs.Mask.{has, count, count_to, one, join, only}
-use Rattle.mask.specs.Laws.{count-below, count_none, has-below, has_join, has-only, join-lt, only-lt}
+use Rattle.mask.proofs.Laws.{count-below, count_none, has-below, has_join, has-only, join-lt, only-lt}
 use Rattle.setup.specs.declared.Plan.{Plan}
 use Rattle.setup.specs.Laws.{Planned}
 use Rattle.station.specs.declared.Station.{Station}

@@ -12,7 +12,7 @@ use Rattle.std.proofs.lemmas.Bool.{eqb-false}
 use Rattle.clock.specs.Limits.{max_stations}
 use Rattle.clock.specs.Pick.{pick}
 use Rattle.mask.specs.Mask.{has, one, count_to, count}
-use Rattle.mask.specs.Laws.{count_none}
+use Rattle.mask.proofs.Laws.{count_none}
 use Rattle.setup.specs.declared.Plan.{Plan}
 use Rattle.setup.specs.Setup.{setup_answer}
 use Rattle.station.specs.declared.Station.{Station}

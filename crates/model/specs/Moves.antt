@@ -15,7 +15,7 @@ use Rattle.clock.specs.Limits.{max_stations}
 use Rattle.clock.specs.Pick.{pick}
 use Rattle.clock.specs.Tests.{both}
 use Rattle.mask.specs.Mask.{has, count, join, only, all, minus}
-use Rattle.mask.specs.Laws.{has-minus, has_all, has-only}
+use Rattle.mask.proofs.Laws.{has-minus, has_all, has-only}
 use Rattle.setup.specs.declared.Plan.{Plan}
 use Rattle.setup.specs.Laws.{Planned}
 use Rattle.station.specs.declared.Station.{Station}

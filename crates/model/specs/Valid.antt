@@ -13,7 +13,7 @@ use Rattle.clock.specs.Limits.{max_time, max_round, max_reading, max_flight}
 use Rattle.clock.specs.Pick.{pick}
 use Rattle.clock.specs.Tests.{outside, both, neither, inside, not-outside, some_to-each}
 use Rattle.mask.specs.Mask.{has, count, below}
-use Rattle.mask.specs.Laws.{count_none}
+use Rattle.mask.proofs.Laws.{count_none}
 use Rattle.setup.specs.declared.Plan.{Plan}
 use Rattle.setup.specs.Setup.{plan_answer, bad_first, setup_answer}
 use Rattle.setup.specs.Laws.{Planned, planned, accepted}

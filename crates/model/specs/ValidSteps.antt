@@ -18,7 +18,7 @@ use Rattle.clock.specs.Limits.{max_stations, max_round, max_reading, max_period}
 use Rattle.clock.specs.Pick.{pick}
 use Rattle.clock.specs.Tests.{both}
 use Rattle.mask.specs.Mask.{has, join, only}
-use Rattle.mask.specs.Laws.{count_none, join-lt, only-some, only-lt}
+use Rattle.mask.proofs.Laws.{count_none, join-lt, only-some, only-lt}
 use Rattle.setup.specs.declared.Plan.{Plan}
 use Rattle.setup.specs.Laws.{Planned}
 use Rattle.station.specs.declared.Station.{Station}

@@ -9,7 +9,7 @@ use borrow.Author.Tests.{eqb-true, not-true, le-leb}
 use Rattle.clock.specs.Pick.{pick}
 use Rattle.clock.specs.Tests.{both}
 use Rattle.mask.specs.Mask.{count}
-use Rattle.mask.specs.Laws.{has-below, only-lt}
+use Rattle.mask.proofs.Laws.{has-below, only-lt}
 use Rattle.setup.specs.declared.Plan.{Plan}
 use Rattle.station.specs.declared.Outcome.{Outcome}
 use Rattle.flight.specs.declared.Message.{Message}
