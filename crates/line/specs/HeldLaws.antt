@@ -14,7 +14,7 @@ use Rattle.setup.specs.Setup.{plan_answer}
 use Rattle.setup.specs.Laws.{Planned}
 use Rattle.flight.specs.Message.{decode, message_at, some_of, twins}
 use Rattle.flight.specs.Members.{some-append}
-use Rattle.flight.specs.Coding.{length-decode}
+use Rattle.flight.proofs.Coding.{length-decode}
 use Rattle.station.specs.declared.Station.{Station}
 use Rattle.line.specs.declared.Line.{Line}
 use Rattle.model.specs.Run.{no_station}

@@ -10,7 +10,7 @@ use Rattle.number.specs.Number.{read_number}
 use Rattle.script.specs.Read.{Setup, setup, no_setup, read_setup, as_setup, unread, Happening, event, no_event, read_event, as_event, none_read}
 use Rattle.script.specs.Read as script
 use Rattle.script.specs.Script.{Entries, through, torn, and_entry, on_event, read_entries, Reading, broken, with_entries, on_setup, read_script}
-use Rattle.script.specs.ReadLaws.{setup-inside}
+use Rattle.script.proofs.ReadLaws.{setup-inside}
 use Rattle.reader.specs.declared.Reader.{Reader}
 use Rattle.reader.specs.Laws.{within-past, within-inside, part-past}
 use Rattle.reader.specs.Reader.{reader_at, stands_at, as_number, number_at, number_of, after_number, event_of, after_event, setup_of, after_setup, within, part_from, part_ptr, rest_of, rest_ptr}

@@ -24,7 +24,7 @@ use Rattle.station.specs.Limits.{steady, is-steady}
 use Rattle.station.specs.Record.{exceeds, move_answer}
 use Rattle.flight.specs.declared.Message.{Message}
 use Rattle.flight.specs.Message.{decode, coded, holds, overdue}
-use Rattle.flight.specs.Coding.{length-decode, Laid, laid-start, laid-decode, laid-length, laid_more}
+use Rattle.flight.proofs.Coding.{length-decode, Laid, laid-start, laid-decode, laid-length, laid_more}
 use Rattle.event.specs.declared.Event.TheVariants.{Advance}
 use Rattle.line.specs.declared.Line.{Line}
 use Rattle.line.specs.Run.{Run, sound, no_station, station_at, sends, moves, sign_to}

@@ -15,7 +15,7 @@ use Rattle.station.specs.declared.Station.{Station}
 use Rattle.flight.specs.declared.Message.{Message}
 use Rattle.flight.specs.Message.{coded, Codable}
 use Rattle.flight.specs.Members.{All, all_map}
-use Rattle.flight.specs.Coding.{length-coded, decode-coded}
+use Rattle.flight.proofs.Coding.{length-coded, decode-coded}
 use Rattle.event.specs.declared.Event.{Event}
 use Rattle.line.specs.declared.Line.{Line}
 use Rattle.line.specs.Run.{Run, no_station}

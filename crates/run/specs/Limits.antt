@@ -12,7 +12,7 @@ use Rattle.mask.specs.Mask.{has, below}
 use Rattle.setup.specs.Laws.{Planned}
 use Rattle.station.specs.Limits.{Small, Steady}
 use Rattle.station.specs.declared.Station.{Station}
-use Rattle.flight.specs.Coding.{length-decode}
+use Rattle.flight.proofs.Coding.{length-decode}
 use Rattle.event.specs.declared.Event.{Event}
 use Rattle.event.specs.declared.Event.TheVariants.{Advance, Deliver, Send}
 use Rattle.event.specs.Event.{bad_increment, bad_advance, bad_ends, barred}

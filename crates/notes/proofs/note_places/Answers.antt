@@ -5,8 +5,8 @@ use mathlib.Core.Path.{◌≡◌, refl, ap, ◌∙◌}
 use native.Mathlib.Omega.{arith}
 use lib.ListN.{length}
 use Rattle.flight.specs.Message.{places_to}
-use Rattle.flight.specs.Keys.{holds-true, holds-false}
-use Rattle.flight.specs.Places.{length-places, places-start, places-turn}
+use Rattle.flight.proofs.Keys.{holds-true, holds-false}
+use Rattle.flight.proofs.Places.{length-places, places-start, places-turn}
 use borrow.Author.Rules.{rules}
 use Rattle.notes.proofs.note_places.Goals as goal
 

@@ -4,7 +4,7 @@ use Prim.Native.Nat.{◌-◌, ◌%◌, ◌≤◌}
 use mathlib.Core.Path.{◌≡◌, refl, sym, ◌∙◌}
 use native.Mathlib.Omega.{arith}
 use lib.ListN.{length, get_or, length-set}
-use Rattle.flight.specs.Keys.{holds-true, holds-false}
+use Rattle.flight.proofs.Keys.{holds-true, holds-false}
 use Rattle.notes.specs.Marks.{first, Marked, Different, marked-none, marked_more, different-none, different-more, different-twins, new_word, word-twins}
 use Rattle.notes.proofs.twins.Goals as goal
 
