@@ -19,7 +19,7 @@ use Rattle.flight.specs.declared.Message.{Message}
 use Rattle.flight.specs.Members.{All, no_member, all_map}
 use Rattle.line.specs.Run.{Run, station_at, sends}
 use Rattle.line.specs.Valid.{Sound}
-use Rattle.line.specs.Moves.{settle-either, hear-either, all-sends}
+use Rattle.line.proofs.Moves.{settle-either, hear-either, all-sends}
 use Rattle.agreement.specs.Among.{Some, some-all}
 use Rattle.agreement.specs.Steps.{Step, Turn, idle, ticks, signs, hears}
 use Rattle.agreement.specs.Course.{Course}

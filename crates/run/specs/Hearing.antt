@@ -36,7 +36,7 @@ use Rattle.line.specs.declared.Line.{Line}
 use Rattle.line.specs.Run.{Run, sound, no_station, station_at, sends, become, hear_at}
 use Rattle.line.specs.Record.{some_station}
 use Rattle.line.specs.Event.{names_of, take_out, effect, unsigned_at, unsigned, full, event_rules}
-use Rattle.line.specs.Order.{sixteen, deliver-last, seventeen, eighteen, send-last}
+use Rattle.line.proofs.Order.{sixteen, deliver-last, seventeen, eighteen, send-last}
 use Rattle.line.specs.Held.{first_of, place_of, run_of}
 use Rattle.line.specs.HeldLaws.{first-length, place-some}
 use Rattle.line.specs.Moves.{heard, heard_sends, heard_run}

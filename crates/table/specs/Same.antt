@@ -26,10 +26,11 @@ use Rattle.line.specs.declared.Line.{Line}
 use Rattle.line.specs.Run.{Run, sound, no_station, station_at, fresh_stations, fresh}
 use Rattle.line.specs.Record.{bad_record}
 use Rattle.line.specs.Event.{effect, step_answer, event_answer, step}
-use Rattle.line.specs.Valid.{Valid, fresh-valid}
+use Rattle.line.specs.Valid.{Valid}
+use Rattle.line.proofs.Valid.{fresh-valid}
 use Rattle.line.specs.History.{Entry}
 use Rattle.line.specs.History.{played as played_run}
-use Rattle.line.specs.ValidSteps.{effect-valid, effect-plan}
+use Rattle.line.proofs.ValidSteps.{effect-valid, effect-plan}
 use Rattle.line.specs.Held.{first_of, run_of, bad_line}
 use Rattle.line.specs.HeldLaws.{first-length, place-some}
 use Rattle.line.specs.declared.Shown.{Shown}
