@@ -8,7 +8,6 @@ use Rattle.flight.specs.Message.{decode, some_of}
 use Rattle.flight.specs.Members.{overdue-early}
 use Rattle.flight.proofs.Keys.{holds-true, holds-false}
 use Rattle.notes.specs.Notes.{before, noted-overdue, first-notes}
-use borrow.Author.Rules.{rules}
 use Rattle.notes.proofs.overdue.Goals as goal
 
 pub returns-then-count-words : goal.returns-then-count-words
