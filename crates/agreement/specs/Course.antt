@@ -20,12 +20,15 @@ use Rattle.event.specs.declared.Event.TheVariants.{Advance, Deliver, Send}
 use Rattle.line.specs.Run.{Run, station_at, fresh, moves}
 use Rattle.line.specs.Record.{bad_record}
 use Rattle.line.specs.Event.{effect, event_answer, step}
-use Rattle.line.specs.Valid.{Sound, Ruled, Valid, valid-is, fresh_at}
-use Rattle.line.specs.Allowed.{Advances, advances}
-use Rattle.line.specs.Allowed.{accepted as allowed}
-use Rattle.line.specs.Moves.{step-refused, moved_at}
-use Rattle.line.specs.ValidSteps.{step-plan}
-use Rattle.line.specs.History.{Entry, played, played-on, run-valid}
+use Rattle.line.specs.Valid.{Sound, Ruled, Valid}
+use Rattle.line.proofs.Valid.{valid-is, fresh_at}
+use Rattle.line.specs.Allowed.{Advances}
+use Rattle.line.proofs.Allowed.{advances}
+use Rattle.line.proofs.Allowed.{accepted as allowed}
+use Rattle.line.proofs.Moves.{step-refused, moved_at}
+use Rattle.line.proofs.ValidSteps.{step-plan}
+use Rattle.line.specs.History.{Entry, played}
+use Rattle.line.proofs.History.{played-on, run-valid}
 use Rattle.agreement.specs.Statement.{Shows, after, no_entry, entry}
 use Rattle.agreement.specs.Steps.{Step, step-shows, move_of, middle, first_step, second-step}
 

@@ -10,7 +10,7 @@ use Rattle.clock.specs.Limits.{parts, max_stations}
 use Rattle.clock.specs.Drift.{rate}
 use Rattle.clock.specs.Pick.{pick}
 use Rattle.mask.specs.Mask.{has, count, count_to, one, join, only}
-use Rattle.mask.specs.Laws.{count-below, count_none, has_join, has-only, join-lt}
+use Rattle.mask.proofs.Laws.{count-below, count_none, has_join, has-only, join-lt}
 use Rattle.setup.specs.declared.Plan.{Plan}
 use Rattle.setup.specs.Laws.{Planned}
 use Rattle.station.specs.declared.Station.{Station}
@@ -19,8 +19,9 @@ use Rattle.station.specs.Station.{waits, mark_for, still, start, settle, gather,
 use Rattle.flight.specs.declared.Message.{Message}
 use Rattle.flight.specs.Message.{toward, sent_to}
 use Rattle.line.specs.Run.{Run, sound, station_at, others, ready_of, relay_of, sends}
-use Rattle.line.specs.Valid.{Sound, is-sound}
-use Rattle.line.specs.Moves.{settle-either, hear-either, hear-starts, others-are}
+use Rattle.line.specs.Valid.{Sound}
+use Rattle.line.proofs.Valid.{is-sound}
+use Rattle.line.proofs.Moves.{settle-either, hear-either, hear-starts, others-are}
 use Rattle.agreement.specs.Clocks.{Clocks, Shown, ShownTo, First, HoldsBack, Broadcast}
 use Rattle.agreement.specs.Among.{Some, some_left, some_right, some-all, some-sent_to}
 use Rattle.agreement.specs.Steps.{Step, Turn, Given, idle, ticks, signs, hears}

@@ -9,7 +9,7 @@ use Rattle.std.proofs.Math.Decide.{dec_lt, dec_le}
 use native.Mathlib.Omega.{arith}
 use borrow.Author.Tests.{eqb-true, eqb-false}
 use Rattle.mask.specs.Mask.{has, count, count_to, one, join, only}
-use Rattle.mask.specs.Laws.{count-below, count_none, has-below, has_join, has-only, join-lt, only-lt}
+use Rattle.mask.proofs.Laws.{count-below, count_none, has-below, has_join, has-only, join-lt, only-lt}
 use Rattle.setup.specs.declared.Plan.{Plan}
 use Rattle.setup.specs.Laws.{Planned}
 use Rattle.station.specs.declared.Station.{Station}
@@ -19,7 +19,7 @@ use Rattle.flight.specs.declared.Message.{Message}
 use Rattle.flight.specs.Members.{All, no_member, all_map}
 use Rattle.line.specs.Run.{Run, station_at, sends}
 use Rattle.line.specs.Valid.{Sound}
-use Rattle.line.specs.Moves.{settle-either, hear-either, all-sends}
+use Rattle.line.proofs.Moves.{settle-either, hear-either, all-sends}
 use Rattle.agreement.specs.Among.{Some, some-all}
 use Rattle.agreement.specs.Steps.{Step, Turn, idle, ticks, signs, hears}
 use Rattle.agreement.specs.Course.{Course}

@@ -27,9 +27,11 @@ use Rattle.event.specs.declared.Event.TheVariants.{Advance, Deliver, Send}
 use Rattle.line.specs.Run.{Run, no_station, station_at, sends, become, hear_at, moved_all, moves, lands_at}
 use Rattle.line.specs.Event.{names_of, take_out, effect, event_answer, step}
 use Rattle.line.specs.Valid.{Sound, Ruled, Due, Valid, nobody}
-use Rattle.line.specs.Allowed.{Advances, Delivers, FaultySends, accepted, advances, delivers, faulty-sends}
-use Rattle.line.specs.ValidSteps.{landed-sound}
-use Rattle.line.specs.Moves.{lands-is, step-accepted, step-refused, moved_at, moved_length, heard, heard_run, advance_at, advance_sends, Signed, signed-to}
+use Rattle.line.specs.Allowed.{Advances, Delivers, FaultySends}
+use Rattle.line.proofs.Allowed.{accepted, advances, delivers, faulty-sends}
+use Rattle.line.proofs.ValidSteps.{landed-sound}
+use Rattle.line.specs.Moves.{heard, heard_run, advance_at, advance_sends, Signed}
+use Rattle.line.proofs.Moves.{lands-is, step-accepted, step-refused, moved_at, moved_length, signed-to}
 use Rattle.line.specs.History.{Entry}
 use Rattle.agreement.specs.Statement.{Shows}
 use Rattle.agreement.specs.Among.{Some, some_left, some_right, some_at, some-without}

@@ -16,8 +16,8 @@ use Rattle.event.specs.declared.Event.TheVariants.{Advance, Deliver, Send}
 use Rattle.line.specs.Run.{Run, station_at, moves}
 use Rattle.line.specs.Event.{effect, event_answer, step}
 use Rattle.line.specs.Valid.{Sound, Valid}
-use Rattle.line.specs.Allowed.{accepted, advances}
-use Rattle.line.specs.Moves.{moved_at}
+use Rattle.line.proofs.Allowed.{accepted, advances}
+use Rattle.line.proofs.Moves.{moved_at}
 use Rattle.line.specs.History.{Entry}
 use Rattle.agreement.specs.Statement.{after, no_entry, entry, Shows, moved, station_after, Agreement}
 use Rattle.agreement.specs.ClockLaws.{follows, spread-holds, ceiling}

@@ -12,7 +12,7 @@ use Rattle.station.specs.declared.Outcome.{Outcome}
 use Rattle.station.specs.Station.{waits, mark_for, still, start, settle, gather, hear, sign, move}
 use Rattle.line.specs.Run.{Run, station_at}
 use Rattle.line.specs.Valid.{Sound}
-use Rattle.line.specs.Moves.{settle-either, hear-either}
+use Rattle.line.proofs.Moves.{settle-either, hear-either}
 use Rattle.agreement.specs.Clocks.{Clocks}
 use Rattle.agreement.specs.ClockLaws.{climbs}
 use Rattle.agreement.specs.Steps.{Step, Turn, idle, ticks, signs, hears}

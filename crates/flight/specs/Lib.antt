@@ -1,8 +1,5 @@
--- The messages on their way: what a flight is and how words hold it, then the laws.
+-- The messages on their way: what a flight is and how words hold it, then the laws of lists of messages.
 pub mod Message
 pub mod Members
-pub mod Coding
 pub mod Apart
 pub mod Keys
-pub mod Places
-pub mod Sending

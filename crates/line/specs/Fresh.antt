@@ -12,7 +12,7 @@ use Rattle.flight.specs.Message.{decode}
 use Rattle.line.specs.declared.Line.{Line}
 use Rattle.line.specs.declared.Begun.{Begun}
 use Rattle.model.specs.Run.{no_station, fresh_station, fresh_stations, fresh}
-use Rattle.model.specs.Valid.{fresh_at, fresh-length}
+use Rattle.model.proofs.Valid.{fresh_at, fresh-length}
 use Rattle.line.specs.Held.{first_of, run_of}
 use Rattle.line.specs.HeldLaws.{first-length, place-some}
 

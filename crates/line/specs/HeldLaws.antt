@@ -14,12 +14,12 @@ use Rattle.setup.specs.Setup.{plan_answer}
 use Rattle.setup.specs.Laws.{Planned}
 use Rattle.flight.specs.Message.{decode, message_at, some_of, twins}
 use Rattle.flight.specs.Members.{some-append}
-use Rattle.flight.specs.Coding.{length-decode}
+use Rattle.flight.proofs.Coding.{length-decode}
 use Rattle.station.specs.declared.Station.{Station}
 use Rattle.line.specs.declared.Line.{Line}
 use Rattle.model.specs.Run.{no_station}
 use Rattle.model.specs.Record.{bad_station_at, some_station, bad_way, bad_round, bad_message, bad_record}
-use Rattle.model.specs.Valid.{valid-is}
+use Rattle.model.proofs.Valid.{valid-is}
 use Rattle.line.specs.Held.{first_of, place_of, station_of, run_of, bad_line}
 
 -- there are n of them

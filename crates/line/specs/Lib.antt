@@ -7,10 +7,7 @@ pub mod Fresh
 pub use Rattle.model.specs.Run
 pub use Rattle.model.specs.Record
 pub use Rattle.model.specs.Event
-pub use Rattle.model.specs.Order
 pub use Rattle.model.specs.Valid
 pub use Rattle.model.specs.Allowed
 pub use Rattle.model.specs.Moves
-pub use Rattle.model.specs.ValidSteps
 pub use Rattle.model.specs.History
-pub use Rattle.model.specs.Rehearsal

@@ -1,3 +1,2 @@
--- Sets of stations: what they are, and their laws.
+-- Sets of stations: what they are.
 pub mod Mask
-pub mod Laws

@@ -1,6 +1,6 @@
 -- The three events of document 01: each is a list of small steps, and is refused by the first number of the table that
 -- applies.
-use Rattle.std.specs.Prelude.{ℕ, zero, suc, ◌+◌, Bool, false, ◌&&◌, ◌||◌, not, List, ltb, eqb, length, get_or}
+use Rattle.std.specs.Prelude.{ℕ, ◌+◌, Bool, ◌&&◌, ◌||◌, not, List, ltb, eqb, length, get_or}
 use Rattle.clock.specs.Limits.{max_time, max_flight}
 use Rattle.clock.specs.Drift.{keeps}
 use Rattle.clock.specs.Pick.{pick, refuse}

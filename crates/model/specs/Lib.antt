@@ -1,12 +1,9 @@
--- The run of a whole line: its state, its record rules and its events; that every event keeps the record valid, what an
--- accepted event moves, and how many messages the history leaves in flight; and document 01's rehearsal computed on it.
+-- The run of a whole line: its state, its record rules and its events; when a record is valid, what an accepted event says and
+-- moves, and what a history tells.
 pub mod Run
 pub mod Record
 pub mod Event
-pub mod Order
 pub mod Valid
 pub mod Allowed
 pub mod Moves
-pub mod ValidSteps
 pub mod History
-pub mod Rehearsal

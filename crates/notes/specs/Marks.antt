@@ -10,8 +10,8 @@ use Rattle.flight.specs.declared.Names.{Names}
 use Rattle.flight.specs.declared.Message.{Message}
 use Rattle.flight.specs.Message.{named, names_of, same_names, unpacked, message_of, message_at, decode, holds, no_message, index_of, near_or, twins}
 use Rattle.flight.specs.Members.{all-at, none-index_of, index_of-named}
-use Rattle.flight.specs.Coding.{length-decode, decode-at}
-use Rattle.flight.specs.Keys.{holds-true, named-key, other_key}
+use Rattle.flight.proofs.Coding.{length-decode, decode-at}
+use Rattle.flight.proofs.Keys.{holds-true, named-key, other_key}
 use Rattle.flight.specs.Apart.{Apart, apart-twins, twins-at, same_turn}
 
 -- the first word of the i-th message

@@ -8,7 +8,7 @@ use Rattle.clock.specs.Limits.{last}
 use Rattle.flight.specs.declared.Message.{Message}
 use Rattle.flight.specs.Message.{message_of, message_at, decode, no_message, some_of, overdue}
 use Rattle.flight.specs.Members.{All, all_replicate, all-at, all_of, all_set, all_map, some_at, some-none, none-some, overdue-none, none-overdue}
-use Rattle.flight.specs.Coding.{length-decode, decode-at}
+use Rattle.flight.proofs.Coding.{length-decode, decode-at}
 
 -- the notes t, with a message of this first word and this time sent noted: the older time stands at the pair's place
 abbrev pub noting : List ℕ → ℕ → ℕ → List ℕ

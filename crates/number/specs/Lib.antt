@@ -1,4 +1,2 @@
--- Numbers as bytes: how they are read and written, the laws, and the round trip.
+-- Numbers as bytes: how they are read and written.
 pub mod Number
-pub mod Laws
-pub mod RoundTrip

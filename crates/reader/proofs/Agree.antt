@@ -10,7 +10,7 @@ use Rattle.number.specs.Number.{read_number}
 use Rattle.script.specs.Read.{Setup, setup, no_setup, read_setup, as_setup, unread, Happening, event, no_event, read_event, as_event, none_read}
 use Rattle.script.specs.Read as script
 use Rattle.script.specs.Script.{Entries, through, torn, and_entry, on_event, read_entries, with_entries, on_setup, read_script}
-use Rattle.script.specs.ReadLaws.{setup-inside}
+use Rattle.script.proofs.ReadLaws.{setup-inside}
 use Rattle.reader.specs.declared.Reader.{Reader}
 use Rattle.reader.specs.Agree.{events_from, from_setup, script_from, AtEnd}
 use Rattle.reader.specs.Laws.{within-past, within-inside, part-past}

@@ -14,7 +14,7 @@ use Rattle.setup.specs.declared.Plan.{Plan}
 use Rattle.setup.specs.Setup.{setup_answer}
 use Rattle.event.specs.declared.Event.{Event}
 use Rattle.number.specs.Number.{laid}
-use Rattle.number.specs.Laws.{laid_none, laid_on}
+use Rattle.number.proofs.Laws.{laid_none, laid_on}
 use Rattle.script.specs.declared.read.SetupRead.{SetupRead}
 use Rattle.script.specs.Read.{read_setup, as_setup, read_event, as_event}
 use Rattle.line.specs.declared.Line.{Line}

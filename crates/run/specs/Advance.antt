@@ -24,16 +24,17 @@ use Rattle.station.specs.Limits.{steady, is-steady}
 use Rattle.station.specs.Record.{exceeds, move_answer}
 use Rattle.flight.specs.declared.Message.{Message}
 use Rattle.flight.specs.Message.{decode, coded, holds, overdue}
-use Rattle.flight.specs.Coding.{length-decode, Laid, laid-start, laid-decode, laid-length, laid_more}
+use Rattle.flight.proofs.Coding.{length-decode, Laid, laid-start, laid-decode, laid-length, laid_more}
 use Rattle.event.specs.declared.Event.TheVariants.{Advance}
 use Rattle.line.specs.declared.Line.{Line}
 use Rattle.line.specs.Run.{Run, sound, no_station, station_at, sends, moves, sign_to}
 use Rattle.line.specs.Record.{some_station}
 use Rattle.line.specs.Event.{effect, exceeds_at, drifts_at, passes_at, full, event_rules}
-use Rattle.line.specs.Order.{twelve}
+use Rattle.line.proofs.Order.{twelve}
 use Rattle.line.specs.Held.{run_of}
 use Rattle.line.specs.HeldLaws.{first-length}
-use Rattle.line.specs.Moves.{advance_at, advance_sends, Signed, signed-to}
+use Rattle.line.specs.Moves.{advance_at, advance_sends, Signed}
+use Rattle.line.proofs.Moves.{signed-to}
 use Rattle.run.specs.declared.Meets.{Meets}
 use Rattle.run.specs.declared.Turns.{Turns}
 use Rattle.run.specs.Play.{placed_to, holding, comes-yes, ruled, ruled_words}

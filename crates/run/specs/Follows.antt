@@ -15,14 +15,15 @@ use Rattle.station.specs.declared.Station.{Station}
 use Rattle.flight.specs.declared.Message.{Message}
 use Rattle.flight.specs.Message.{coded, Codable}
 use Rattle.flight.specs.Members.{All, all_map}
-use Rattle.flight.specs.Coding.{length-coded, decode-coded}
+use Rattle.flight.proofs.Coding.{length-coded, decode-coded}
 use Rattle.event.specs.declared.Event.{Event}
 use Rattle.line.specs.declared.Line.{Line}
 use Rattle.line.specs.Run.{Run, no_station}
 use Rattle.line.specs.Record.{bad_record}
 use Rattle.line.specs.Event.{effect, step_answer, event_answer, step}
-use Rattle.line.specs.Valid.{Valid, is-valid, fresh-valid}
-use Rattle.line.specs.ValidSteps.{effect-valid, effect-plan, step-valid}
+use Rattle.line.specs.Valid.{Valid}
+use Rattle.line.proofs.Valid.{is-valid, fresh-valid}
+use Rattle.line.proofs.ValidSteps.{effect-valid, effect-plan, step-valid}
 use Rattle.line.specs.History.{Entry}
 use Rattle.line.specs.History.{played as played_run}
 use Rattle.line.specs.Held.{first_of, run_of, bad_line}

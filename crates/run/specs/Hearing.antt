@@ -25,10 +25,10 @@ use Rattle.flight.specs.declared.Message.{Message}
 use Rattle.flight.specs.declared.Names.{Names}
 use Rattle.flight.specs.declared.Answer.{Answer}
 use Rattle.flight.specs.Message.{decode, message_at, coded, holds, no_message, index_of, near_or, without, after, answer, can_take}
-use Rattle.flight.specs.Places.{near-is}
+use Rattle.flight.proofs.Places.{near-is}
 use Rattle.flight.specs.Members.{length_without, index_of-most}
-use Rattle.flight.specs.Coding.{length-decode, length-coded, decode-at, laid-start, laid-without, laid-decode, laid-over}
-use Rattle.flight.specs.Keys.{take-allowed}
+use Rattle.flight.proofs.Coding.{length-decode, length-coded, decode-at, laid-start, laid-without, laid-decode, laid-over}
+use Rattle.flight.proofs.Keys.{take-allowed}
 use Rattle.event.specs.declared.Event.{Event}
 use Rattle.event.specs.declared.Event.TheVariants.{Advance, Deliver, Send}
 use Rattle.event.specs.Event.{bad_deliver, bad_send, barred, hearer}
@@ -36,7 +36,7 @@ use Rattle.line.specs.declared.Line.{Line}
 use Rattle.line.specs.Run.{Run, sound, no_station, station_at, sends, become, hear_at}
 use Rattle.line.specs.Record.{some_station}
 use Rattle.line.specs.Event.{names_of, take_out, effect, unsigned_at, unsigned, full, event_rules}
-use Rattle.line.specs.Order.{sixteen, deliver-last, seventeen, eighteen, send-last}
+use Rattle.line.proofs.Order.{sixteen, deliver-last, seventeen, eighteen, send-last}
 use Rattle.line.specs.Held.{first_of, place_of, run_of}
 use Rattle.line.specs.HeldLaws.{first-length, place-some}
 use Rattle.line.specs.Moves.{heard, heard_sends, heard_run}

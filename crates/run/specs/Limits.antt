@@ -12,7 +12,7 @@ use Rattle.mask.specs.Mask.{has, below}
 use Rattle.setup.specs.Laws.{Planned}
 use Rattle.station.specs.Limits.{Small, Steady}
 use Rattle.station.specs.declared.Station.{Station}
-use Rattle.flight.specs.Coding.{length-decode}
+use Rattle.flight.proofs.Coding.{length-decode}
 use Rattle.event.specs.declared.Event.{Event}
 use Rattle.event.specs.declared.Event.TheVariants.{Advance, Deliver, Send}
 use Rattle.event.specs.Event.{bad_increment, bad_advance, bad_ends, barred}
@@ -21,8 +21,9 @@ use Rattle.line.specs.Run.{no_station, station_at}
 use Rattle.line.specs.Record.{bad_record}
 use Rattle.line.specs.Held.{run_of, bad_line}
 use Rattle.line.specs.HeldLaws.{place-some}
-use Rattle.line.specs.Valid.{Valid, valid-is}
-use Rattle.line.specs.Allowed.{increment-is, ends_is}
+use Rattle.line.specs.Valid.{Valid}
+use Rattle.line.proofs.Valid.{valid-is}
+use Rattle.line.proofs.Allowed.{increment-is, ends_is}
 
 -- a valid record: its run keeps the record rules, its table has n stations and its words are for 1,024 messages
 pub record Held (l : Line) (words : List ℕ) : Type 0 where

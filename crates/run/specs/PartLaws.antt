@@ -15,10 +15,10 @@ use Rattle.event.specs.declared.Event.{Event}
 use Rattle.event.specs.Event.{hearer}
 use Rattle.setup.specs.declared.Plan.{Plan}
 use Rattle.number.specs.Number.{laid}
-use Rattle.number.specs.Laws.{length-laid}
+use Rattle.number.proofs.Laws.{length-laid}
 use Rattle.script.specs.declared.read.EventRead.{EventRead}
 use Rattle.script.specs.Read.{read_event, as_event}
-use Rattle.script.specs.ReadLaws.{increments-long}
+use Rattle.script.proofs.ReadLaws.{increments-long}
 use Rattle.station.specs.declared.Station.{Station}
 use Rattle.line.specs.declared.Line.{Line}
 use Rattle.line.specs.Run.{Run, no_station, station_at}

@@ -9,15 +9,15 @@ use borrow.Author.Tests.{eqb-true, not-true, le-leb}
 use Rattle.clock.specs.Pick.{pick}
 use Rattle.clock.specs.Tests.{both}
 use Rattle.mask.specs.Mask.{count}
-use Rattle.mask.specs.Laws.{has-below, only-lt}
+use Rattle.mask.proofs.Laws.{has-below, only-lt}
 use Rattle.setup.specs.declared.Plan.{Plan}
 use Rattle.station.specs.declared.Outcome.{Outcome}
 use Rattle.flight.specs.declared.Message.{Message}
 use Rattle.flight.specs.declared.Answer.{Answer}
 use Rattle.flight.specs.Message.{decode, coded, holds, Codable, sent_to, can_send, answer, after}
-use Rattle.flight.specs.Coding.{length-decode, coded-decode, decode-codable, Laid, laid-decode, laid-length, laid-over}
+use Rattle.flight.proofs.Coding.{length-decode, coded-decode, decode-codable, Laid, laid-decode, laid-length, laid-over}
 use Rattle.flight.specs.Members.{All, all_append}
-use Rattle.flight.specs.Sending.{count-sent, count-few, codable-sent, send-allowed}
+use Rattle.flight.proofs.Sending.{count-sent, count-few, codable-sent, send-allowed}
 use Rattle.line.specs.Run.{others, ready_of, relay_of, sends}
 
 -- how many messages station i sends to the others when it has done this

@@ -1,6 +1,4 @@
--- Scripts: setups and events as numbers, whole scripts, and the round trip.
+-- Scripts: setups and events as numbers, and whole scripts.
 pub mod Read
-pub mod ReadLaws
 pub mod Write
 pub mod Script
-pub mod RoundTrip

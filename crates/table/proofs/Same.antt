@@ -22,10 +22,11 @@ use Rattle.line.specs.declared.Line.{Line}
 use Rattle.line.specs.Run.{Run, fresh_stations, fresh}
 use Rattle.line.specs.Record.{bad_record}
 use Rattle.line.specs.Event.{effect, step_answer, event_answer, step}
-use Rattle.line.specs.Valid.{Valid, fresh-valid}
+use Rattle.line.specs.Valid.{Valid}
+use Rattle.line.proofs.Valid.{fresh-valid}
 use Rattle.line.specs.History.{Entry}
 use Rattle.line.specs.History.{played as played_run}
-use Rattle.line.specs.ValidSteps.{effect-valid, effect-plan}
+use Rattle.line.proofs.ValidSteps.{effect-valid, effect-plan}
 use Rattle.line.specs.Held.{run_of, bad_line}
 use Rattle.line.specs.Fresh.{no_stations, seated_to, fresh-run}
 use Rattle.run.specs.declared.Played.{Played}

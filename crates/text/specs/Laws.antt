@@ -8,7 +8,7 @@ use Rattle.std.proofs.Math.Nat.{div-div-eq-div-mul}
 use Rattle.std.proofs.lemmas.Bool.{lt-leb}
 use Rattle.clock.specs.Pick.{pick}
 use Rattle.number.specs.Number.{laid}
-use Rattle.number.specs.Laws.{laid_none, laid_on, length-laid}
+use Rattle.number.proofs.Laws.{laid_none, laid_on, length-laid}
 use Rattle.mask.specs.Mask.{has}
 use Rattle.line.specs.declared.Line.{Line}
 use Rattle.line.specs.Run.{Run, no_station, station_at}

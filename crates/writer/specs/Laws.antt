@@ -6,7 +6,7 @@ use Rattle.std.proofs.Math.Decide.{dec_lt}
 use Rattle.std.proofs.lemmas.Bool.{lt-leb}
 use Rattle.std.proofs.Math.Seq.{paste-suc}
 use Rattle.number.specs.Number.{groups, number_bytes, bytes_of, laid}
-use Rattle.number.specs.Laws.{groups-last, groups-on, bytes-append, laid_on}
+use Rattle.number.proofs.Laws.{groups-last, groups-on, bytes-append, laid_on}
 use Rattle.writer.specs.declared.Written.{Written}
 use Rattle.writer.specs.declared.Written.TheVariants as written
 use Rattle.writer.specs.Write.{room, wrote, buffer, writes, leaves}

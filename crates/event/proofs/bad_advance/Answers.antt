@@ -1,6 +1,5 @@
 -- `event::bad_advance` answers `bad_advance`, from what `outside` and `some_bad_increment` answer. Assumes nothing.
 use Rattle.event.specs.Event.{bad_advance}
-use borrow.Author.Rules.{rules}
 use Rattle.event.proofs.bad_advance.Goals as goal
 
 pub returns : goal.returns

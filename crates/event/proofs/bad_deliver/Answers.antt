@@ -1,5 +1,4 @@
 -- `event::bad_deliver` answers `bad_deliver`, from what `bad_ends` answers. Assumes nothing.
-use borrow.Author.Rules.{rules}
 use Rattle.event.proofs.bad_deliver.Goals as goal
 
 pub returns : goal.returns

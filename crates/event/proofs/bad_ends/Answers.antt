@@ -1,6 +1,5 @@
 -- `event::bad_ends` answers `bad_ends`, from what `has` and `outside` answer. Assumes nothing.
 use Rattle.event.specs.Event.{bad_ends}
-use borrow.Author.Rules.{rules}
 use Rattle.event.proofs.bad_ends.Goals as goal
 
 pub returns : goal.returns

@@ -1,6 +1,5 @@
 -- `event::bad_increment` answers `bad_increment`, from what `has` answers. Assumes nothing.
 use Rattle.event.specs.Event.{bad_increment}
-use borrow.Author.Rules.{rules}
 use Rattle.event.proofs.bad_increment.Goals as goal
 
 pub returns : goal.returns

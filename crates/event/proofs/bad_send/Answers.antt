@@ -1,5 +1,4 @@
 -- `event::bad_send` answers `bad_send`, from what `bad_ends` and `below` answer. Assumes nothing.
-use borrow.Author.Rules.{rules}
 use Rattle.event.proofs.bad_send.Goals as goal
 
 pub returns : goal.returns

@@ -1,6 +1,5 @@
 -- `event::barred` answers `barred`, event by event. Assumes nothing.
 use Rattle.event.specs.Event.{barred}
-use borrow.Author.Rules.{rules}
 use Rattle.event.proofs.barred.Goals as goal
 
 pub returns-in-Advance : goal.returns-in-Advance

@@ -1,7 +1,6 @@
 -- `event::hearer` is the recipient of a message that 11 does not bar, and n for all else. Assumes nothing.
 use mathlib.Core.Path.{refl}
 use Rattle.event.specs.Event.{hearer}
-use borrow.Author.Rules.{rules}
 use Rattle.event.proofs.hearer.Goals as goal
 
 pub returns-in-Advance : goal.returns-in-Advance

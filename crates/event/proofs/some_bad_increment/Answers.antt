@@ -1,10 +1,8 @@
 -- `event::some_bad_increment` says whether some increment is barred: after i turns `bad` says it of the first i. The measure
 -- is what is left of the increments. Assumes nothing.
-use Prim.Native.Nat.{◌-◌, ◌≤◌}
 use mathlib.Core.Path.{◌≡◌, sym, ap, ◌∙◌}
 use lib.ListN.{length}
 use Rattle.clock.specs.Tests.{some_to, some_to-none, some_to-more}
-use Rattle.event.specs.Event.{bad_increment}
 use native.Mathlib.Omega.{arith}
 use Rattle.event.proofs.some_bad_increment.Goals as goal
 

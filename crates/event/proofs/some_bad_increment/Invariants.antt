@@ -1,11 +1,10 @@
 -- `event::some_bad_increment` says whether some increment is barred: after i turns `bad` says it of the first i. The measure
 -- is what is left of the increments. Assumes nothing.
 use Prim.Native.Nat.{◌-◌, ◌≤◌}
-use mathlib.Core.Path.{◌≡◌, sym, ap, ◌∙◌}
+use mathlib.Core.Path.{◌≡◌}
 use lib.ListN.{length}
-use Rattle.clock.specs.Tests.{some_to, some_to-none, some_to-more}
+use Rattle.clock.specs.Tests.{some_to}
 use Rattle.event.specs.Event.{bad_increment}
-use native.Mathlib.Omega.{arith}
 use Rattle.event.proofs.some_bad_increment.Given as goal
 
 abbrev pub invariant-loop-i : goal.invariant-loop-i

@@ -1,13 +1,11 @@
 -- `flight::find` answers `near_or`: names that a word packs are found by that word, and others nowhere. Assumes nothing.
 use Prim.Native.Nat.{ℕ, ◌%◌}
 use mathlib.Core.Path.{◌≡◌, refl, sym, ap, ap₂, ◌∙◌}
-use borrow.Author.Tests.{not-true, not-false}
 use lib.ListN.{get_or}
 use Rattle.flight.specs.declared.Names.{Names}
 use Rattle.flight.specs.Message.{packed, unpacked, decode, near_or}
-use Rattle.flight.specs.Keys.{holds-true, holds-false, packs-true, true-packable, false-recipient, false-packs, unpacked-packed}
-use Rattle.flight.specs.Places.{near-unpackable}
-use borrow.Author.Rules.{rules}
+use Rattle.flight.proofs.Keys.{holds-true, holds-false, packs-true, true-packable, false-recipient, false-packs, unpacked-packed}
+use Rattle.flight.proofs.Places.{near-unpackable}
 use Rattle.flight.proofs.find.Goals as goal
 
 pub returns-then-count-words : goal.returns-then-count-words

@@ -2,13 +2,11 @@
 -- passed laid behind the others. Assumes nothing.
 use mathlib.Core.List.{◌++◌}
 use mathlib.Core.Path.{◌≡◌, ap, ◌∙◌}
-use Prim.Native.Nat.{ℕ, ◌+◌, ◌-◌, ◌≤◌}
+use Prim.Native.Nat.{ℕ, ◌+◌}
 use native.Mathlib.Omega.{arith}
-use borrow.Author.Rules.{rules}
 use lib.ListN.{length}
 use Rattle.flight.specs.Message.{decode, coded, sent_to}
-use Rattle.flight.specs.Sending.{turn-start, turn-length, turn-fits, turn-number, turn-done, key_fits}
-use Rattle.mask.specs.Mask.{has}
+use Rattle.flight.proofs.Sending.{turn-start, turn-length, turn-fits, turn-number, turn-done, key_fits}
 use Rattle.flight.proofs.lay.Goals as goal
 
 pub pack-key-requires : goal.pack-key-requires

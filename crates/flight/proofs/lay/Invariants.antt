@@ -1,14 +1,10 @@
 -- `flight::lay` sends to each station in the mask. The loop's invariant: the words are the entry's with the messages to the stations
 -- passed laid behind the others. Assumes nothing.
 use mathlib.Core.List.{◌++◌}
-use mathlib.Core.Path.{◌≡◌, ap, ◌∙◌}
-use Prim.Native.Nat.{ℕ, ◌+◌, ◌-◌, ◌≤◌}
-use native.Mathlib.Omega.{arith}
-use borrow.Author.Rules.{rules}
+use mathlib.Core.Path.{◌≡◌}
+use Prim.Native.Nat.{◌+◌, ◌-◌, ◌≤◌}
 use lib.ListN.{length}
 use Rattle.flight.specs.Message.{decode, coded, sent_to}
-use Rattle.flight.specs.Sending.{turn-start, turn-length, turn-fits, turn-number, turn-done, key_fits}
-use Rattle.mask.specs.Mask.{has}
 use Rattle.flight.proofs.lay.Given as goal
 
 abbrev pub invariant-loop-k : goal.invariant-loop-k

@@ -1,8 +1,7 @@
 -- `flight::message_at` answers `message_at`: where the place is past all words, each of its words is. Assumes nothing.
 use mathlib.Core.Path.{sym, ◌∙◌}
 use Rattle.flight.specs.Message.{message_at}
-use Rattle.flight.specs.Keys.{message-past}
-use borrow.Author.Rules.{rules}
+use Rattle.flight.proofs.Keys.{message-past}
 use Rattle.flight.proofs.message_at.Goals as goal
 
 pub returns-then-at-words : goal.returns-then-at-words

@@ -1,7 +1,6 @@
 -- `flight::pack` makes `packed` of the names, which fits a word. Assumes nothing.
 use mathlib.Core.Path.{refl}
 use Rattle.flight.specs.Message.{packed}
-use borrow.Author.Rules.{rules}
 use Rattle.flight.proofs.pack.Goals as goal
 
 pub returns : goal.returns

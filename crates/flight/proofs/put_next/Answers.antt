@@ -1,7 +1,6 @@
 -- `flight::put_next` stores three words where it is told to. Assumes nothing.
 use mathlib.Core.Path.{refl}
 use native.Mathlib.Omega.{arith}
-use borrow.Author.Rules.{rules}
 use Rattle.flight.proofs.put_next.Goals as goal
 
 pub overflow_mul-n : goal.overflow_mul-n

@@ -1,12 +1,9 @@
 -- `flight::seek` finds the first message of these names. The loop's invariant: no message passed has the word. Equal words are
 -- equal names. Assumes nothing.
-use Prim.Native.Nat.{ℕ, ◌*◌, ◌-◌, ◌≤◌, ◌<◌}
-use mathlib.Core.Path.{◌≡◌, sym}
+use mathlib.Core.Path.{sym}
 use borrow.Author.Count.{below_more}
-use borrow.Author.Rules.{rules}
 use native.Mathlib.Omega.{arith}
-use lib.ListN.{get_or}
-use Rattle.flight.specs.Keys.{seek-at, seek-none}
+use Rattle.flight.proofs.Keys.{seek-at, seek-none}
 use Rattle.flight.proofs.seek.Goals as goal
 
 pub loop-i-init : goal.loop-i-init

@@ -1,12 +1,8 @@
 -- `flight::seek` finds the first message of these names. The loop's invariant: no message passed has the word. Equal words are
 -- equal names. Assumes nothing.
 use Prim.Native.Nat.{ℕ, ◌*◌, ◌-◌, ◌≤◌, ◌<◌}
-use mathlib.Core.Path.{◌≡◌, sym}
-use borrow.Author.Count.{below_more}
-use borrow.Author.Rules.{rules}
-use native.Mathlib.Omega.{arith}
+use mathlib.Core.Path.{◌≡◌}
 use lib.ListN.{get_or}
-use Rattle.flight.specs.Keys.{seek-at, seek-none}
 use Rattle.flight.proofs.seek.Given as goal
 
 abbrev pub invariant-loop-i : goal.invariant-loop-i

@@ -2,9 +2,8 @@
 use mathlib.Core.Path.{sym, ◌∙◌}
 use native.Mathlib.Omega.{arith}
 use Rattle.flight.specs.Message.{unpacked, decode}
-use Rattle.flight.specs.Coding.{length-decode}
-use Rattle.flight.specs.Places.{near-past, near-key, near-other-key}
-use borrow.Author.Rules.{rules}
+use Rattle.flight.proofs.Coding.{length-decode}
+use Rattle.flight.proofs.Places.{near-past, near-key, near-other-key}
 use Rattle.flight.proofs.seek_near.Goals as goal
 
 pub returns-then-near-count : goal.returns-then-near-count

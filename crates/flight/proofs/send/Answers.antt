@@ -3,12 +3,10 @@ use mathlib.Core.List.{◌++◌}
 use mathlib.Core.Path.{◌≡◌, refl, sym, ◌∙◌}
 use native.Mathlib.Omega.{arith}
 use lib.ListN.{length, length-append}
-use borrow.Author.Tests.{not-true, not-false}
 use Rattle.flight.specs.Message.{decode, sent_to}
-use Rattle.flight.specs.Coding.{length-decode}
-use Rattle.flight.specs.Keys.{packs-true}
-use Rattle.flight.specs.Sending.{count-few, count-sent, send-unpackable, send-no-room, send-too-many, send-can}
-use borrow.Author.Rules.{rules}
+use Rattle.flight.proofs.Coding.{length-decode}
+use Rattle.flight.proofs.Keys.{packs-true}
+use Rattle.flight.proofs.Sending.{count-few, count-sent, send-unpackable, send-no-room, send-too-many, send-can}
 use Rattle.flight.proofs.send.Goals as goal
 
 pub returns-then-not-packs : goal.returns-then-not-packs

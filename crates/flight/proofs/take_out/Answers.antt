@@ -6,9 +6,8 @@ use native.Mathlib.Omega.{arith}
 use lib.ListN.{length}
 use Rattle.flight.specs.Message.{decode, without}
 use Rattle.flight.specs.Members.{length_without}
-use Rattle.flight.specs.Coding.{length-decode, stored-out}
-use Rattle.flight.specs.Keys.{take-no-room, take_past, take-can}
-use borrow.Author.Rules.{rules}
+use Rattle.flight.proofs.Coding.{length-decode, stored-out}
+use Rattle.flight.proofs.Keys.{take-no-room, take_past, take-can}
 use Rattle.flight.proofs.take_out.Goals as goal
 
 pub returns-then-count-words : goal.returns-then-count-words

@@ -1,7 +1,6 @@
 -- `flight::word` answers `get_or`: past the end that is 0. Assumes nothing.
 use mathlib.Core.Path.{sym}
 use lib.ListN.{get_or-eq_default}
-use borrow.Author.Rules.{rules}
 use Rattle.flight.proofs.word.Goals as goal
 
 pub returns-else-at-words : goal.returns-else-at-words

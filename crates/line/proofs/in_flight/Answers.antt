@@ -1,6 +1,6 @@
 -- `line::in_flight` answers `in_flight`: 10, else how many messages the words hold. Assumes nothing.
 use mathlib.Core.Path.{sym, ◌∙◌}
-use Rattle.flight.specs.Coding.{length-decode}
+use Rattle.flight.proofs.Coding.{length-decode}
 use Rattle.line.specs.Held.{run_of}
 use Rattle.line.specs.Question.{in_flight}
 use borrow.Author.Rules.{rules}

@@ -1,7 +1,7 @@
 -- `mask::count` answers `count`: the set digits of a word are its members. Assumes nothing.
 use lib.Count.{ones-le}
 use Rattle.mask.specs.Mask.{count}
-use Rattle.mask.specs.Laws.{ones-count}
+use Rattle.mask.proofs.Laws.{ones-count}
 use native.Mathlib.Omega.{arith}
 use Rattle.mask.proofs.count.Goals as goal
 

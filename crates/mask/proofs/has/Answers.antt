@@ -1,7 +1,7 @@
 -- `mask::has` answers `has`: a word has no bit at 64 or above. Assumes nothing.
 use mathlib.Core.Path.{refl, sym}
 use Rattle.mask.specs.Mask.{has}
-use Rattle.mask.specs.Laws.{has-below}
+use Rattle.mask.proofs.Laws.{has-below}
 use Rattle.mask.proofs.has.Goals as goal
 
 pub returns-then-i-ge64 : goal.returns-then-i-ge64

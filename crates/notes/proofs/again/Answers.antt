@@ -2,7 +2,6 @@
 use mathlib.Core.Path.{refl}
 use borrow.Author.Tests.{eq-eqb, ne_eqb}
 use Rattle.notes.specs.Marks.{word-found}
-use borrow.Author.Rules.{rules}
 use Rattle.notes.proofs.again.Goals as goal
 
 pub returns-then-mark-eq0 : goal.returns-then-mark-eq0

@@ -1,10 +1,9 @@
 -- `notes::note` notes the oldest time sent of each pair. The loop's invariant: the notes are those of the messages passed.
 -- Assumes nothing.
 use mathlib.Core.Path.{◌≡◌, refl, ap, ap₂, ◌∙◌}
-use Prim.Native.Nat.{ℕ, ◌+◌, ◌*◌, ◌-◌, ◌%◌, ◌≤◌, min}
+use Prim.Native.Nat.{ℕ, ◌+◌, ◌*◌, ◌%◌, min}
 use native.Mathlib.Omega.{arith}
 use native.Mathlib.Numerals.{add-one}
-use borrow.Author.Rules.{rules}
 use mathlib.Core.List.{List}
 use lib.ListN.{length, get_or, set}
 use Rattle.notes.specs.Notes.{noted, length-noted}

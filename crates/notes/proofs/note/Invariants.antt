@@ -1,13 +1,8 @@
 -- `notes::note` notes the oldest time sent of each pair. The loop's invariant: the notes are those of the messages passed.
 -- Assumes nothing.
-use mathlib.Core.Path.{◌≡◌, refl, ap, ap₂, ◌∙◌}
-use Prim.Native.Nat.{ℕ, ◌+◌, ◌*◌, ◌-◌, ◌%◌, ◌≤◌, min}
-use native.Mathlib.Omega.{arith}
-use native.Mathlib.Numerals.{add-one}
-use borrow.Author.Rules.{rules}
-use mathlib.Core.List.{List}
-use lib.ListN.{length, get_or, set}
-use Rattle.notes.specs.Notes.{noted, length-noted}
+use mathlib.Core.Path.{◌≡◌}
+use Prim.Native.Nat.{◌-◌, ◌≤◌}
+use Rattle.notes.specs.Notes.{noted}
 use Rattle.notes.proofs.note.Given as goal
 
 abbrev pub invariant-loop-i : goal.invariant-loop-i

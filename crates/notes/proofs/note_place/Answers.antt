@@ -1,7 +1,6 @@
 -- `notes::note_place` answers `set`: past the end that changes nothing. Assumes nothing.
 use mathlib.Core.Path.{sym}
 use lib.Seq.{set_out}
-use borrow.Author.Rules.{rules}
 use Rattle.notes.proofs.note_place.Goals as goal
 
 pub returns-else-at-places : goal.returns-else-at-places

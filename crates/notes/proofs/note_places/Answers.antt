@@ -1,13 +1,12 @@
 -- `notes::note_places` notes the messages from the first to the last. The loop's invariant: the notes are those of the messages
 -- passed. Assumes nothing.
-use Prim.Native.Nat.{ℕ, ◌-◌, ◌≤◌}
+use Prim.Native.Nat.{ℕ, ◌-◌}
 use mathlib.Core.Path.{◌≡◌, refl, ap, ◌∙◌}
 use native.Mathlib.Omega.{arith}
 use lib.ListN.{length}
 use Rattle.flight.specs.Message.{places_to}
-use Rattle.flight.specs.Keys.{holds-true, holds-false}
-use Rattle.flight.specs.Places.{length-places, places-start, places-turn}
-use borrow.Author.Rules.{rules}
+use Rattle.flight.proofs.Keys.{holds-true, holds-false}
+use Rattle.flight.proofs.Places.{length-places, places-start, places-turn}
 use Rattle.notes.proofs.note_places.Goals as goal
 
 pub returns-then-to-words : goal.returns-then-to-words

@@ -1,13 +1,8 @@
 -- `notes::note_places` notes the messages from the first to the last. The loop's invariant: the notes are those of the messages
 -- passed. Assumes nothing.
-use Prim.Native.Nat.{ℕ, ◌-◌, ◌≤◌}
-use mathlib.Core.Path.{◌≡◌, refl, ap, ◌∙◌}
-use native.Mathlib.Omega.{arith}
-use lib.ListN.{length}
+use Prim.Native.Nat.{◌-◌, ◌≤◌}
+use mathlib.Core.Path.{◌≡◌}
 use Rattle.flight.specs.Message.{places_to}
-use Rattle.flight.specs.Keys.{holds-true, holds-false}
-use Rattle.flight.specs.Places.{length-places, places-start, places-turn}
-use borrow.Author.Rules.{rules}
 use Rattle.notes.proofs.note_places.Given as goal
 
 abbrev pub invariant-loop-i : goal.invariant-loop-i

@@ -6,9 +6,8 @@ use lib.ListN.{replicate}
 use Rattle.clock.specs.Limits.{last}
 use Rattle.flight.specs.Message.{decode, some_of}
 use Rattle.flight.specs.Members.{overdue-early}
-use Rattle.flight.specs.Keys.{holds-true, holds-false}
+use Rattle.flight.proofs.Keys.{holds-true, holds-false}
 use Rattle.notes.specs.Notes.{before, noted-overdue, first-notes}
-use borrow.Author.Rules.{rules}
 use Rattle.notes.proofs.overdue.Goals as goal
 
 pub returns-then-count-words : goal.returns-then-count-words

@@ -1,14 +1,9 @@
 -- `notes::search` answers whether a time noted is before the limit. Each loop's invariant: no time at a place passed is.
 -- Assumes nothing.
 use mathlib.Core.Bool.{false}
-use mathlib.Core.Path.{◌≡◌, refl, sym, ◌∙◌}
+use mathlib.Core.Path.{◌≡◌}
 use Prim.Native.Nat.{ℕ, ◌+◌, ◌*◌, ◌-◌, ◌≤◌, ◌<◌}
-use native.Mathlib.Omega.{arith}
-use borrow.Author.Rules.{rules}
-use borrow.Author.Count.{below_more}
 use lib.ListN.{get_or}
-use Rattle.flight.specs.Members.{all_of}
-use Rattle.notes.specs.Notes.{before_at, before-none}
 use Rattle.notes.proofs.search.Given as goal
 
 abbrev pub invariant-loop-recipient : goal.invariant-loop-recipient

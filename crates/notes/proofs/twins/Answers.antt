@@ -1,11 +1,11 @@
 -- `notes::twins` answers `twins`. The loop's invariant: the place of each word passed is marked, and no two of those words are equal.
 -- Assumes nothing.
-use Prim.Native.Nat.{◌-◌, ◌%◌, ◌≤◌}
+use Prim.Native.Nat.{◌%◌}
 use mathlib.Core.Path.{◌≡◌, refl, sym, ◌∙◌}
 use native.Mathlib.Omega.{arith}
-use lib.ListN.{length, get_or, length-set}
-use Rattle.flight.specs.Keys.{holds-true, holds-false}
-use Rattle.notes.specs.Marks.{first, Marked, Different, marked-none, marked_more, different-none, different-more, different-twins, new_word, word-twins}
+use lib.ListN.{get_or, length-set}
+use Rattle.flight.proofs.Keys.{holds-true, holds-false}
+use Rattle.notes.specs.Marks.{first, marked-none, marked_more, different-none, different-more, different-twins, new_word, word-twins}
 use Rattle.notes.proofs.twins.Goals as goal
 
 pub returns-then-count-words : goal.returns-then-count-words

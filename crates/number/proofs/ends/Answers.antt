@@ -1,6 +1,5 @@
 -- `number::ends` answers `ends`, by its one test. Assumes nothing.
 use Rattle.number.specs.Number.{ends}
-use borrow.Author.Rules.{rules}
 use Rattle.number.proofs.ends.Goals as goal
 
 pub returns-then-byte-weight : goal.returns-then-byte-weight

@@ -8,7 +8,7 @@ use native.Mathlib.Nat.{mul-le-mul_right}
 use borrow.Author.Tests.{le-leb, lt-leb, lt-ltb, le-ltb}
 use lib.ListN.{length, get_or}
 use Rattle.number.specs.Number.{ends, number_from, read_number}
-use Rattle.number.specs.Laws.{number_step, Weight, weight-start, weight-most, weight-room, weight-next}
+use Rattle.number.proofs.Laws.{number_step, weight-start, weight-most, weight-room, weight-next}
 use Rattle.number.specs.declared.Number.TheVariants.{Refused}
 use native.Mathlib.Omega.{arith}
 use Rattle.number.proofs.read_long.Goals as goal

@@ -1,8 +1,7 @@
 -- `number::read_number` answers `read_number`: a first byte below 128 at once, any other as `read_long` does. Assumes nothing.
 use mathlib.Core.Path.{sym}
 use native.Mathlib.Omega.{arith}
-use Rattle.number.specs.Laws.{number_short}
-use borrow.Author.Rules.{rules}
+use Rattle.number.proofs.Laws.{number_short}
 use Rattle.number.proofs.read_number.Goals as goal
 
 pub overflow_cast-byte : goal.overflow_cast-byte

@@ -5,7 +5,7 @@ use lib.ListN.{length}
 use lib.Seq.{length-take-le}
 use Rattle.script.specs.declared.read.SetupRead.{SetupRead}
 use Rattle.script.specs.Read.{read_setup}
-use Rattle.script.specs.ReadLaws.{first-long, setup-few}
+use Rattle.script.proofs.ReadLaws.{first-long, setup-few}
 use Rattle.rehearsal.specs.Opening.{open_is, opening-long, opening-one, opening-stops, opening-begins}
 use borrow.Author.Rules.{rules}
 use Rattle.run.specs.declared.parts.Part.{Part}

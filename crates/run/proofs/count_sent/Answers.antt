@@ -4,7 +4,7 @@ use mathlib.Core.Path.{sym, ◌∙◌}
 use lib.Dec.{eqb}
 use Prim.Native.Nat.{◌≤◌}
 use native.Mathlib.Omega.{arith}
-use Rattle.flight.specs.Sending.{count-few}
+use Rattle.flight.proofs.Sending.{count-few}
 use Rattle.run.specs.Sends.{sent_by, part-most, sent-quiet}
 use borrow.Author.Rules.{rules}
 use Rattle.run.proofs.count_sent.Goals as goal

@@ -5,7 +5,7 @@ use mathlib.Core.Path.{◌≡◌, refl, ap, ◌∙◌}
 use Prim.Native.Nat.{ℕ, ◌+◌, ◌-◌, ◌^◌, ◌<◌, ◌≤◌}
 use native.Mathlib.Omega.{arith}
 use Rattle.flight.specs.Message.{decode, coded}
-use Rattle.flight.specs.Coding.{Laid, laid-length}
+use Rattle.flight.proofs.Coding.{Laid, laid-length}
 use Rattle.line.specs.Held.{run_of}
 use Rattle.line.specs.Moves.{advance_sends}
 use Rattle.run.specs.Limits.{table-station, station-small}

@@ -11,7 +11,6 @@ use Rattle.clock.specs.Tests.{some_to}
 use Rattle.setup.specs.declared.Plan.{Plan}
 use Rattle.setup.specs.Setup.{plan_answer, bad_first, first_answer, setup_answer}
 use Rattle.setup.specs.Laws.{planned}
-use borrow.Author.Rules.{rules}
 use Rattle.setup.proofs.answer.Goals as goal
 
 -- another number of first readings than n

@@ -1,7 +1,6 @@
 -- `setup::bad_first` answers `bad_first`, by whether the mask has the station. Assumes nothing.
 use mathlib.Core.Path.{sym, ◌∙◌}
 use Rattle.setup.specs.Setup.{bad_first}
-use borrow.Author.Rules.{rules}
 use Rattle.setup.proofs.bad_first.Goals as goal
 
 pub returns-then-has : goal.returns-then-has

@@ -1,6 +1,5 @@
 -- `setup::bad_limits` answers `bad_limits`: five tests, each answered by `outside`. Assumes nothing.
 use Rattle.setup.specs.Setup.{bad_limits}
-use borrow.Author.Rules.{rules}
 use Rattle.setup.proofs.bad_limits.Goals as goal
 
 pub returns : goal.returns

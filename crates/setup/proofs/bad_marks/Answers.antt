@@ -1,6 +1,5 @@
 -- `setup::bad_marks` answers `bad_marks`, from what `below` and `count` answer. Assumes nothing.
 use Rattle.setup.specs.Setup.{bad_marks}
-use borrow.Author.Rules.{rules}
 use Rattle.setup.proofs.bad_marks.Goals as goal
 
 pub returns : goal.returns

@@ -2,7 +2,6 @@
 use borrow.Author.Tests.{lt-ltb, le-ltb}
 use Rattle.setup.specs.Setup.{gap}
 use Rattle.setup.proofs.Products.{bound-rate}
-use borrow.Author.Rules.{rules}
 use native.Mathlib.Omega.{arith}
 use Rattle.setup.proofs.gap.Goals as goal
 

@@ -1,10 +1,8 @@
 -- `setup::plan_answer` answers `plan_answer`: at each `return` the tests that led there say which line of the table it is, and
 -- past 3 the limits hold. Assumes nothing.
 use mathlib.Core.Path.{sym, ◌∙◌}
-use borrow.Author.Tests.{not-true, not-false}
 use Rattle.setup.specs.Setup.{plan_answer, bad_stations}
 use Rattle.setup.specs.Laws.{in-limits}
-use borrow.Author.Rules.{rules}
 use Rattle.setup.proofs.plan_answer.Goals as goal
 
 pub returns-then-outside : goal.returns-then-outside

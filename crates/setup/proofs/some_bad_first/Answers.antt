@@ -1,10 +1,8 @@
 -- `setup::some_bad_first` says whether some reading is bad: after i turns `bad` says whether one of the first i readings is. The
 -- measure is what is left of the readings. Assumes nothing.
-use Prim.Native.Nat.{◌-◌, ◌≤◌}
 use mathlib.Core.Path.{◌≡◌, sym, ap, ◌∙◌}
 use lib.ListN.{length}
 use Rattle.clock.specs.Tests.{some_to, some_to-none, some_to-more}
-use Rattle.setup.specs.Setup.{bad_first}
 use native.Mathlib.Omega.{arith}
 use Rattle.setup.proofs.some_bad_first.Goals as goal
 

@@ -1,11 +1,10 @@
 -- `setup::some_bad_first` says whether some reading is bad: after i turns `bad` says whether one of the first i readings is. The
 -- measure is what is left of the readings. Assumes nothing.
 use Prim.Native.Nat.{◌-◌, ◌≤◌}
-use mathlib.Core.Path.{◌≡◌, sym, ap, ◌∙◌}
+use mathlib.Core.Path.{◌≡◌}
 use lib.ListN.{length}
-use Rattle.clock.specs.Tests.{some_to, some_to-none, some_to-more}
+use Rattle.clock.specs.Tests.{some_to}
 use Rattle.setup.specs.Setup.{bad_first}
-use native.Mathlib.Omega.{arith}
 use Rattle.setup.proofs.some_bad_first.Given as goal
 
 abbrev pub invariant-loop-i : goal.invariant-loop-i

@@ -2,7 +2,6 @@
 use mathlib.Core.Path.{refl}
 use Rattle.setup.specs.Setup.{spreads}
 use Rattle.setup.proofs.Products.{rate-rate, parts-rate, period-rate, bound-rate, bound-rates, spread-rate, gain-most}
-use borrow.Author.Rules.{rules}
 use native.Mathlib.Omega.{arith}
 use Rattle.setup.proofs.spreads.Goals as goal
 

@@ -2,7 +2,6 @@
 use mathlib.Core.Path.{refl}
 use Rattle.setup.specs.Setup.{steps}
 use Rattle.setup.proofs.Products.{rate-spread, steps-most}
-use borrow.Author.Rules.{rules}
 use native.Mathlib.Omega.{arith}
 use Rattle.setup.proofs.steps.Goals as goal
 

@@ -12,7 +12,6 @@ use Rattle.station.specs.Record.{advance_answer, bad_board}
 use Rattle.station.specs.Laws.{sound-small, answered-no, answered-yes}
 use Rattle.setup.specs.declared.Plan.{Plan}
 use Rattle.station.specs.declared.Station.{Station}
-use borrow.Author.Rules.{rules}
 use Rattle.station.proofs.advance.Goals as goal
 
 -- past 10 and 11 every number is within its limit

@@ -1,8 +1,6 @@
 -- `station::advanced` goes on within the limits, and does nothing past them. Assumes nothing.
 use mathlib.Core.Path.{sym, ◌∙◌}
-use borrow.Author.Tests.{not-true, not-false}
 use Rattle.station.specs.Limits.{steady-is}
-use borrow.Author.Rules.{rules}
 use Rattle.station.proofs.advanced.Goals as goal
 
 pub returns-then-not-steady : goal.returns-then-not-steady

@@ -3,7 +3,6 @@ use mathlib.Core.Path.{sym, ◌∙◌}
 use borrow.Author.Tests.{ne_eqb}
 use Rattle.station.specs.Record.{bad_board}
 use Rattle.station.specs.Laws.{plan-limits}
-use borrow.Author.Rules.{rules}
 use Rattle.station.proofs.bad_board.Goals as goal
 
 pub returns-then-plan_answer-ne0 : goal.returns-then-plan_answer-ne0

@@ -1,6 +1,5 @@
 -- `station::bad_gathered` answers `bad_gathered`, from what `below` and `count` answer. Assumes nothing.
 use Rattle.station.specs.Record.{bad_gathered}
-use borrow.Author.Rules.{rules}
 use Rattle.station.proofs.bad_gathered.Goals as goal
 
 pub returns : goal.returns

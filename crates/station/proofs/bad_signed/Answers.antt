@@ -1,6 +1,5 @@
 -- `station::bad_signed` answers `bad_signed`, by whether the reading is past the mark. Assumes nothing.
 use Rattle.station.specs.Laws.{signed-past, signed-before}
-use borrow.Author.Rules.{rules}
 use Rattle.station.proofs.bad_signed.Goals as goal
 
 pub returns-then-mark-s : goal.returns-then-mark-s

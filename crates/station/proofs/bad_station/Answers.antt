@@ -4,7 +4,6 @@ use borrow.Author.Tests.{lt-ltb, le-ltb}
 use Rattle.station.specs.Record.{past_limits, bad_station, bad_numbers}
 use Rattle.clock.specs.Tests.{neither}
 use borrow.Author.Tests.{ltb-false}
-use borrow.Author.Rules.{rules}
 use Rattle.station.proofs.bad_station.Goals as goal
 
 pub returns-then-plan-gt-MAX_PERIOD : goal.returns-then-plan-gt-MAX_PERIOD

@@ -1,6 +1,5 @@
 -- `station::exceeds` answers `exceeds`, from the mark. Assumes nothing.
 use Rattle.station.specs.Record.{exceeds}
-use borrow.Author.Rules.{rules}
 use Rattle.station.proofs.exceeds.Goals as goal
 
 pub mark_for-mark-requires : goal.mark_for-mark-requires

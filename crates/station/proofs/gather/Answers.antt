@@ -1,6 +1,5 @@
 -- `station::gather` answers `hear`: another round is ignored, and the signers of its own are joined to those it has. Assumes nothing.
 use Rattle.station.specs.Laws.{hear-other, hear-own}
-use borrow.Author.Rules.{rules}
 use Rattle.station.proofs.gather.Goals as goal
 
 pub returns-then-round-s : goal.returns-then-round-s

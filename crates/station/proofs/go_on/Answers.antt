@@ -1,7 +1,6 @@
 -- `station::go_on` answers `advance`: the moved station signs where it lands, and else is left as it is. Assumes nothing.
 use mathlib.Core.Path.{sym, ◌∙◌}
 use Rattle.station.specs.Laws.{advance-lands, advance-goes}
-use borrow.Author.Rules.{rules}
 use Rattle.station.proofs.go_on.Goals as goal
 
 pub lands-requires : goal.lands-requires

@@ -3,7 +3,6 @@ use mathlib.Core.Path.{sym, ◌∙◌}
 use native.Mathlib.Omega.{arith}
 use Rattle.station.specs.Record.{hear_answer}
 use Rattle.station.specs.Laws.{sound-small, answered-no, answered-yes}
-use borrow.Author.Rules.{rules}
 use Rattle.station.proofs.hear.Goals as goal
 
 pub returns-then-bad_board : goal.returns-then-bad_board

@@ -1,8 +1,6 @@
 -- `station::heard` hears within the limits, and does nothing past them. Assumes nothing.
 use mathlib.Core.Path.{sym, ◌∙◌}
-use borrow.Author.Tests.{not-true, not-false}
 use Rattle.station.specs.Limits.{small_is}
-use borrow.Author.Rules.{rules}
 use Rattle.station.proofs.heard.Goals as goal
 
 pub returns-then-not-small : goal.returns-then-not-small

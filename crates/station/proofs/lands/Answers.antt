@@ -1,6 +1,5 @@
 -- `station::lands` answers `lands`, from the mark. Assumes nothing.
 use Rattle.station.specs.Station.{lands}
-use borrow.Author.Rules.{rules}
 use Rattle.station.proofs.lands.Goals as goal
 
 pub mark_for-mark-requires : goal.mark_for-mark-requires

@@ -1,7 +1,6 @@
 -- `station::mark_for` answers `mark_for`: within the limits a mark is k·P. Assumes nothing.
 use mathlib.Core.Path.{◌∙◌}
 use Rattle.station.specs.Limits.{mark-for}
-use borrow.Author.Rules.{rules}
 use Rattle.station.proofs.mark_for.Goals as goal
 
 pub returns : goal.returns

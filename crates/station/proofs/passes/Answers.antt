@@ -1,6 +1,5 @@
 -- `station::passes` answers `passes`, from the mark. Assumes nothing.
 use Rattle.station.specs.Station.{passes}
-use borrow.Author.Rules.{rules}
 use Rattle.station.proofs.passes.Goals as goal
 
 pub mark_for-mark-requires : goal.mark_for-mark-requires

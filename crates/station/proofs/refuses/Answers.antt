@@ -1,9 +1,7 @@
 -- `station::refuses` answers `move_answer` within the limits, and 12 past them. Assumes nothing.
 use mathlib.Core.Path.{sym, ◌∙◌}
-use borrow.Author.Tests.{not-true, not-false}
 use Rattle.station.specs.Limits.{steady-is}
 use Rattle.station.specs.Record.{move_answer}
-use borrow.Author.Rules.{rules}
 use Rattle.station.proofs.refuses.Goals as goal
 
 pub returns-then-not-steady : goal.returns-then-not-steady

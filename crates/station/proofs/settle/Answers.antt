@@ -1,6 +1,5 @@
 -- `station::settle` answers `settle`, by its one test. Assumes nothing.
 use Rattle.station.specs.Laws.{settle-starts, settle-waits}
-use borrow.Author.Rules.{rules}
 use Rattle.station.proofs.settle.Goals as goal
 
 pub returns-then-plan-count : goal.returns-then-plan-count

@@ -1,6 +1,5 @@
 -- `station::sign` answers `sign`: its own signature is joined to those it has. Assumes nothing.
 use Rattle.station.specs.Laws.{sign-is}
-use borrow.Author.Rules.{rules}
 use Rattle.station.proofs.sign.Goals as goal
 
 pub settle-requires : goal.settle-requires

@@ -1,6 +1,5 @@
 -- `station::start` answers `start`: the mark and A are far from the end of a word. Assumes nothing.
 use Rattle.station.specs.Laws.{start_is}
-use borrow.Author.Rules.{rules}
 use Rattle.station.proofs.start.Goals as goal
 
 pub returns : goal.returns

@@ -1,6 +1,5 @@
 -- `station::steady` answers `steady`, from what `small` answers. Assumes nothing.
 use Rattle.station.specs.Limits.{steady}
-use borrow.Author.Rules.{rules}
 use Rattle.station.proofs.steady.Goals as goal
 
 pub returns : goal.returns

@@ -5,7 +5,7 @@ use mathlib.Core.Path.{◌≡◌, refl, sym, ◌∙◌, ap}
 use mathlib.Core.List.{List}
 use lib.ListN.{length, take, set, get_or, length-set}
 use Rattle.number.specs.Number.{laid}
-use Rattle.number.specs.Laws.{laid_none}
+use Rattle.number.proofs.Laws.{laid_none}
 use Rattle.writer.specs.Laws.{laid-byte}
 use native.Mathlib.Omega.{arith}
 use Rattle.writer.proofs.copy.Given as goal

@@ -7,7 +7,7 @@ use native.Mathlib.Numerals.{add-one}
 use lib.ListN.{length, take, get_or, length-append}
 use lib.Seq.{take-length}
 use Rattle.number.specs.Number.{number_bytes, bytes_of, laid}
-use Rattle.number.specs.Laws.{laid_none, laid_on, length-laid}
+use Rattle.number.proofs.Laws.{laid_none, laid_on, length-laid}
 use Rattle.writer.specs.Laws.{bytes-more, bytes-part}
 use native.Mathlib.Omega.{arith}
 use Rattle.writer.proofs.put_numbers.Invariants.{Put}

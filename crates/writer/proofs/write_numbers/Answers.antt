@@ -5,7 +5,7 @@ use mathlib.Core.List.{List, ◌++◌}
 use mathlib.Core.Path.{◌≡◌, ap, ap₂, ◌∙◌}
 use lib.ListN.{length}
 use Rattle.number.specs.Number.{bytes_of, laid}
-use Rattle.number.specs.Laws.{rows-length}
+use Rattle.number.proofs.Laws.{rows-length}
 use Rattle.writer.specs.Laws.{rows-laid, short, long}
 use Rattle.writer.specs.declared.Written.TheVariants as written
 use borrow.Author.Rules.{rules}

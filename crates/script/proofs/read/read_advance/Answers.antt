@@ -2,8 +2,7 @@
 -- nothing.
 use mathlib.Core.Path.{refl, ap, sym, ◌∙◌}
 use Rattle.script.specs.Read.{refusal_of}
-use Rattle.script.specs.ReadLaws.{got, lost, advance-refused, advance-stopped, advance-whole, unread-event, whole-event}
-use borrow.Author.Rules.{rules}
+use Rattle.script.proofs.ReadLaws.{got, lost, advance-refused, advance-stopped, advance-whole, unread-event, whole-event}
 use Rattle.script.proofs.read.read_advance.Goals as goal
 
 pub returns-in_default : goal.returns-in_default

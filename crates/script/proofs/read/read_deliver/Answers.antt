@@ -5,8 +5,7 @@ use mathlib.Core.Path.{refl, ap, ◌∙◌}
 use lib.ListN.{get_or}
 use Rattle.event.specs.declared.Event.TheVariants.{Deliver}
 use Rattle.script.specs.Read.{deliver_from, padded}
-use Rattle.script.specs.ReadLaws.{got, lost, deliver-padded, unread-event, whole-event}
-use borrow.Author.Rules.{rules}
+use Rattle.script.proofs.ReadLaws.{got, lost, deliver-padded, unread-event, whole-event}
 use Rattle.script.proofs.read.read_deliver.Goals as goal
 
 pub returns-then-named-ne0 : goal.returns-then-named-ne0

@@ -4,8 +4,7 @@ use borrow.Author.Tests.{eq-eqb, ne_eqb}
 use Rattle.clock.specs.Tests.{inside}
 use Rattle.clock.specs.Limits.{max_stations}
 use Rattle.script.specs.Read.{refusal_of, read_event, event_from}
-use Rattle.script.specs.ReadLaws.{unread-event}
-use borrow.Author.Rules.{rules}
+use Rattle.script.proofs.ReadLaws.{unread-event}
 use Rattle.script.proofs.read.read_event.Goals as goal
 
 pub returns-then-outside : goal.returns-then-outside

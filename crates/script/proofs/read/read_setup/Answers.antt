@@ -4,8 +4,7 @@ use mathlib.Core.Path.{refl, ap, sym, ◌∙◌}
 use Rattle.clock.specs.Tests.{inside}
 use Rattle.clock.specs.Limits.{max_stations}
 use Rattle.script.specs.Read.{plan_of, refusal_of}
-use Rattle.script.specs.ReadLaws.{got, lost, plan-padded, setup-refused, setup-one, setup-plan, setup-first, setup-whole, unread-setup, whole-setup}
-use borrow.Author.Rules.{rules}
+use Rattle.script.proofs.ReadLaws.{got, lost, plan-padded, setup-refused, setup-one, setup-plan, setup-first, setup-whole, unread-setup, whole-setup}
 use Rattle.script.proofs.read.read_setup.Goals as goal
 
 pub returns-in_default : goal.returns-in_default

@@ -1,7 +1,6 @@
 -- `script::refusal` answers `refusal_of`, case by case. Assumes nothing.
 use mathlib.Core.Path.{ap, sym}
 use Rattle.script.specs.Read.{refusal_of}
-use borrow.Author.Rules.{rules}
 use Rattle.script.proofs.read.refusal.Goals as goal
 
 pub returns-in-Value : goal.returns-in-Value

@@ -6,9 +6,8 @@ use mathlib.Core.Path.{◌≡◌, ap, ◌∙◌}
 use lib.ListN.{length, take, drop, length-drop}
 use lib.Seq.{take_all}
 use Rattle.script.specs.Read.{as_setup, read_setup, rest_at, rest_of}
-use Rattle.script.specs.ReadLaws.{setup-inside}
+use Rattle.script.proofs.ReadLaws.{setup-inside}
 use Rattle.script.specs.declared.read.SetupRead.{SetupRead}
-use borrow.Author.Rules.{rules}
 use native.Mathlib.Omega.{arith}
 use Rattle.script.proofs.read.rest.Goals as goal
 

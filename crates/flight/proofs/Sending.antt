@@ -7,12 +7,13 @@ use Rattle.std.proofs.Math.Decide.{dec_lt}
 use Rattle.std.proofs.Math.Pow.{field, mod-mod-pow}
 use Rattle.clock.specs.Pick.{pick}
 use Rattle.mask.specs.Mask.{has, count}
-use Rattle.mask.specs.Laws.{count-below, count_most, count_same}
+use Rattle.mask.proofs.Laws.{count-below, count_most, count_same}
 use Rattle.flight.specs.declared.Message.{Message}
 use Rattle.flight.specs.Message.{packed, packs, key_of, names_of, decode, coded, stored, holds, Codable, toward, sent_to, can_send}
 use Rattle.flight.specs.Members.{All, all-sent_to, length-sent_to}
-use Rattle.flight.specs.Coding.{length-decode, length-coded, coded-decode, stored-end}
-use Rattle.flight.specs.Keys.{Packs, true-packs, holds-true, holds-false}
+use Rattle.flight.proofs.Coding.{length-decode, length-coded, coded-decode, stored-end}
+use Rattle.flight.specs.Keys.{Packs}
+use Rattle.flight.proofs.Keys.{true-packs, holds-true, holds-false}
 
 -- ---- how many are sent
 

@@ -6,9 +6,9 @@ use Rattle.flight.specs.declared.Names.{Names}
 use Rattle.flight.specs.declared.Message.{Message}
 use Rattle.flight.specs.Message.{names_of, named, no_message, packable, unpacked, message_at, decode, index_of, near_or, places_to, twins}
 use Rattle.flight.specs.Members.{Agree, named-agree, agree-named, differs, index_of-is, none-index_of, all-at}
-use Rattle.flight.specs.Coding.{length-decode, decode-at}
+use Rattle.flight.proofs.Coding.{length-decode, decode-at}
 use Rattle.flight.specs.Apart.{Apart, twins-apart}
-use Rattle.flight.specs.Keys.{named-key, other_key, seek-unpackable}
+use Rattle.flight.proofs.Keys.{named-key, other_key, seek-unpackable}
 
 -- ---- near or first
 

@@ -18,7 +18,7 @@ use Rattle.clock.specs.Limits.{max_stations, max_round, max_reading, max_period}
 use Rattle.clock.specs.Pick.{pick}
 use Rattle.clock.specs.Tests.{both}
 use Rattle.mask.specs.Mask.{has, join, only}
-use Rattle.mask.specs.Laws.{count_none, join-lt, only-some, only-lt}
+use Rattle.mask.proofs.Laws.{count_none, join-lt, only-some, only-lt}
 use Rattle.setup.specs.declared.Plan.{Plan}
 use Rattle.setup.specs.Laws.{Planned}
 use Rattle.station.specs.declared.Station.{Station}
@@ -33,9 +33,11 @@ use Rattle.event.specs.declared.Event.TheVariants.{Advance, Deliver, Send}
 use Rattle.model.specs.Run.{Run, sound, no_station, station_at, others, ready_of, relay_of, sends, become, sign_at, hear_at, moved_all, moves, lands_at, sign_to}
 use Rattle.model.specs.Record.{bad_record}
 use Rattle.model.specs.Event.{take_out, deliver_at, effect, step_answer, event_answer, step}
-use Rattle.model.specs.Valid.{Sound, Ruled, Due, OnItsWay, Between, nobody, Valid, sound-is, is-valid}
-use Rattle.model.specs.Allowed.{Advances, second-fails, accepted, advances, delivers, faulty-sends}
-use Rattle.model.specs.Moves.{settle-either, hear-either, lands-is, others-are, all-sends, moved_at, moved_length, signed-to}
+use Rattle.model.specs.Valid.{Sound, Ruled, Due, OnItsWay, Between, nobody, Valid}
+use Rattle.model.proofs.Valid.{sound-is, is-valid}
+use Rattle.model.specs.Allowed.{Advances}
+use Rattle.model.proofs.Allowed.{second-fails, accepted, advances, delivers, faulty-sends}
+use Rattle.model.proofs.Moves.{settle-either, hear-either, lands-is, others-are, all-sends, moved_at, moved_length, signed-to}
 
 -- ---- a station's step
 

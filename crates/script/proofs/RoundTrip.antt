@@ -23,8 +23,8 @@ use Rattle.event.specs.Event.{barred, bad_advance}
 use Rattle.number.specs.declared.Number.{Number}
 use Rattle.number.specs.declared.Number.TheVariants.{Value, Refused}
 use Rattle.number.specs.Number.{read_number, number_bytes, bytes_of}
-use Rattle.number.specs.Laws.{number-length, bytes-append, rows-length}
-use Rattle.number.specs.RoundTrip.{number-back, number-again}
+use Rattle.number.proofs.Laws.{number-length, bytes-append, rows-length}
+use Rattle.number.proofs.RoundTrip.{number-back, number-again}
 use Rattle.script.specs.Read.{on_number, Many, many, stopped, and_many, read_many, plan_of, Setup, setup, no_setup, with_first, with_plan, setup_from, read_setup, Happening, event, no_event, with_increments, deliver_from, send_from, advance_from, event_from, read_event}
 use Rattle.script.specs.Write.{plan_numbers, setup_numbers, event_numbers}
 use Rattle.script.specs.Script.{Entry, Script, entries_bytes, script_bytes, Entries, through, torn, and_entry, on_event, read_entries, whole, with_entries, on_setup, read_script}

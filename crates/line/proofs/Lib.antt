@@ -1,0 +1,8 @@
+-- The laws of the model of a run, passed on under their names.
+pub use Rattle.model.proofs.Order
+pub use Rattle.model.proofs.Valid
+pub use Rattle.model.proofs.Allowed
+pub use Rattle.model.proofs.Moves
+pub use Rattle.model.proofs.ValidSteps
+pub use Rattle.model.proofs.History
+pub use Rattle.model.proofs.Rehearsal

@@ -1,0 +1,2 @@
+-- The laws of sets of stations.
+pub mod Laws
