@@ -24,7 +24,7 @@ use Rattle.line.specs.Held.{run_of, bad_line}
 use Rattle.line.specs.declared.Begun.{Begun}
 use Rattle.line.specs.Fresh.{no_stations, no_plan, line_for, seated_to, begun, fresh-run}
 use Rattle.text.specs.Text.{line_with, event_line, setup_line, script_line}
-use Rattle.text.specs.Laws.{end_same}
+use Rattle.text.proofs.Laws.{end_same}
 use Rattle.run.specs.Play.{comes, play_answer}
 use Rattle.run.specs.Play.{played as event_played, played_words}
 use Rattle.run.specs.Limits.{held-is, held-settled}

@@ -28,8 +28,8 @@ use Rattle.line.specs.Held.{first_of, station_of, run_of, bad_line}
 use Rattle.line.specs.HeldLaws.{first-length, station-of}
 use Rattle.line.specs.Fresh.{no_stations}
 use Rattle.text.specs.Text.{event_end, line_with, event_line, script_line, roomy, fits, fits_end, printed, behind}
-use Rattle.text.specs.Laws.{fits-well, fits-end, end_same}
-use Rattle.text.specs.Room.{roomy-has, line-most, end-most}
+use Rattle.text.proofs.Laws.{fits-well, fits-end, end_same}
+use Rattle.text.proofs.Room.{roomy-has, line-most, end-most}
 use Rattle.run.specs.declared.Played.{Played}
 use Rattle.run.specs.declared.parts.Part.{Part}
 use Rattle.run.specs.declared.Heard.{Heard}
