@@ -28,9 +28,9 @@ use Rattle.text.proofs.Laws.{end_same}
 use Rattle.run.specs.Play.{comes, play_answer}
 use Rattle.run.specs.Play.{played as event_played, played_words}
 use Rattle.run.specs.Limits.{held-is, held-settled}
-use Rattle.run.specs.Follows.{play-answer, play-run, play-keeps}
+use Rattle.run.proofs.Follows.{play-answer, play-run, play-keeps}
 use Rattle.run.specs.Part.{Standing, goes_on, line_of, after, stops, read_at, played_from, seated, standing, played}
-use Rattle.run.specs.PartLaws.{goes_number, line-of-most, seated-good, seated-twelve, seated-run}
+use Rattle.run.proofs.PartLaws.{goes_number, line-of-most, seated-good, seated-twelve, seated-run}
 use Rattle.rehearsal.specs.Opening.{Opening, closed, begins, opened, opening}
 
 -- ---- the lines of a rehearsal

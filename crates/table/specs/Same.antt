@@ -41,7 +41,8 @@ use Rattle.run.specs.declared.Played.{Played}
 use Rattle.run.specs.Play.{placed_to, holding, comes, comes_words, play_answer}
 use Rattle.run.specs.Play as core
 use Rattle.run.specs.Limits.{Held, held-is}
-use Rattle.run.specs.Follows.{placed-length, placed_at, first-placed, Kept, plays_all, play-answer, play-run, play-keeps, plays-all}
+use Rattle.run.specs.Follows.{Kept, plays_all}
+use Rattle.run.proofs.Follows.{placed-length, placed_at, first-placed, play-answer, play-run, play-keeps, plays-all}
 use Rattle.seating.specs.declared.Rest.{Rest}
 use Rattle.seating.specs.declared.Answered.{Answered}
 use Rattle.table.specs.declared.Question.{Question}

@@ -45,7 +45,7 @@ use Rattle.station.proofs.Station.TheLaws as S'
 use Rattle.line.specs.Run.{no_station}
 use Rattle.run.specs.declared.Played.{Played}
 use Rattle.run.specs.Play.{placed_to}
-use Rattle.run.specs.Follows.{placed-length}
+use Rattle.run.proofs.Follows.{placed-length}
 use Rattle.run.specs.contracts.Played as P
 use Rattle.run.proofs.Played.TheLaws as P'
 use Rattle.seating.specs.declared.Answered.{Answered}
