@@ -1,13 +1,13 @@
 -- Some member of a list has a property: how that passes through the lists that a flight is made of.
-use Rattle.std.specs.Prelude.{ℕ, zero, suc, ◌+◌, ◌-◌, ◌<◌, ◌≤◌, Bool, true, false, List, [], ◌∷◌, ◌++◌, ◌⊎◌, ◌≡◌, refl, eqb, length, get_or}
-use Rattle.std.proofs.Common.{inl, inr, ap, sym, ◌∙◌, arith, eqb-true, ne_eqb, eq-eqb}
+use Rattle.std.specs.Prelude.{ℕ, zero, suc, ◌-◌, ◌<◌, Bool, true, false, List, [], ◌∷◌, ◌++◌, ◌⊎◌, ◌≡◌, refl, eqb, length, get_or}
+use Rattle.std.proofs.Common.{inl, inr, arith, eqb-true, eq-eqb}
 use Rattle.std.proofs.Math.Decide.{dec_lt}
 use Rattle.std.proofs.lemmas.Bool.{eqb-false}
 use Rattle.clock.specs.Pick.{pick}
 use Rattle.mask.specs.Mask.{has}
 use Rattle.flight.specs.declared.Message.{Message}
 use Rattle.flight.specs.Message.{no_message, without, toward, sent_to}
-use Rattle.flight.specs.Members.{All, no_member, also, length_without, without_at}
+use Rattle.flight.specs.Members.{All, also, length_without, without_at}
 
 -- some member has P
 pub data Some {A : Type 0} (P : A → Type 0) : List A → Type 0 where

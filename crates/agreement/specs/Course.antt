@@ -1,15 +1,14 @@
 -- A course: the states of a run, two steps to each event, and what the record rules say of every state. Whatever is proved of a
 -- course is proved of every run of an accepted setup.
 use Prim.Native.Nat.{ℕ, zero, suc, ◌+◌, ◌*◌, ◌^◌, ◌<◌, ◌≤◌}
-use Rattle.std.specs.Prelude.{Bool, true, false, List, [], ◌∷◌, ◌++◌, ◌≡◌, eqb, length, get_or, take}
+use Rattle.std.specs.Prelude.{Bool, true, false, List, [], ◌∷◌, ◌≡◌, eqb, length, get_or, take}
 use Rattle.std.proofs.Math.Path.{refl, ap, subst}
 use Rattle.std.proofs.Common.{sym, ◌∙◌, take-suc, eqb-true}
 use Rattle.std.proofs.Math.Decide.{dec_lt}
 use native.Mathlib.Omega.{arith}
-use Rattle.std.proofs.lemmas.Bool.{not-false}
 use Rattle.clock.specs.Pick.{pick}
 use Rattle.clock.specs.Tests.{inside, some_to-each}
-use Rattle.mask.specs.Mask.{has, count}
+use Rattle.mask.specs.Mask.{count}
 use Rattle.setup.specs.declared.Plan.{Plan}
 use Rattle.setup.specs.Setup.{setup_answer, bad_first}
 use Rattle.setup.specs.Laws.{Planned, planned, accepted}
@@ -18,8 +17,7 @@ use Rattle.station.specs.Station.{waits, mark_for, move}
 use Rattle.event.specs.declared.Event.{Event}
 use Rattle.event.specs.declared.Event.TheVariants.{Advance, Deliver, Send}
 use Rattle.line.specs.Run.{Run, station_at, fresh, moves}
-use Rattle.line.specs.Record.{bad_record}
-use Rattle.line.specs.Event.{effect, event_answer, step}
+use Rattle.line.specs.Event.{event_answer, step}
 use Rattle.line.specs.Valid.{Sound, Ruled, Valid}
 use Rattle.line.proofs.Valid.{valid-is, fresh_at}
 use Rattle.line.specs.Allowed.{Advances}

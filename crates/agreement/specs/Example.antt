@@ -17,8 +17,7 @@ use Rattle.line.specs.Run.{Run, station_at, sound, fresh_stations, fresh, others
 use Rattle.line.specs.Record.{bad_faulty, bad_station_at, some_station, bad_content, bad_way, bad_round, bad_message, bad_record}
 use Rattle.line.specs.Event.{take_out, effect, exceeds_at, drifts_at, passes_at, unsigned_at, unsigned, full, event_rules, step_answer, event_answer, step}
 use Rattle.line.specs.History.{Entry, played}
-use Rattle.agreement.specs.Statement.{after, Agreement}
-use Rattle.agreement.specs.Theorem.{agreement}
+use Rattle.agreement.specs.Statement.{after}
 
 -- ---- events and what they leave
 
@@ -175,10 +174,3 @@ reached = (
     lead = refl;
   },
 )
-
--- and demand 3 holds of them
-pub base_agrees : Agreement plan first events
-base_agrees = agreement plan first events reached.0.setup
-
-pub steady-agrees : Agreement steady steady-first steady-events
-steady-agrees = agreement steady steady-first steady-events reached.1.setup

@@ -1,4 +1,4 @@
--- Demand 3: what the clocks keep, what the messages promise, and the two put together over the run.
+-- Demand 3, what the clocks keep, the run cut into steps, and an example of what it says.
 pub mod Statement
 pub mod Clocks
 pub mod ClockSums
@@ -9,7 +9,4 @@ pub mod Course
 pub mod Kept
 pub mod Timing
 pub mod Signatures
-pub mod Messages
-pub mod Broadcasts
-pub mod Theorem
 pub mod Example

@@ -1,11 +1,11 @@
 -- A run in two steps for each event: first the clocks move, then the stations sign or hear. What a step does to each station,
 -- to the time and to the flight, as the proof of demand 3 needs it.
-use Prim.Native.Nat.{ℕ, zero, suc, ◌+◌, ◌*◌, ◌-◌, ◌^◌, ◌<◌, ◌≤◌}
-use Rattle.std.specs.Prelude.{Bool, ◌&&◌, not, ◌⊎◌, ltb, length, get_or, set}
+use Prim.Native.Nat.{ℕ, zero, suc, ◌+◌, ◌^◌, ◌<◌, ◌≤◌}
+use Rattle.std.specs.Prelude.{Bool, ◌⊎◌, get_or}
 use Rattle.std.proofs.Math.Bool.{true, false}
-use mathlib.Core.List.{List, [], ◌∷◌, ◌++◌}
+use mathlib.Core.List.{List, [], ◌++◌}
 use Rattle.std.proofs.Math.Logic.{inl}
-use Rattle.std.proofs.Common.{inr, ap, sym, ◌∙◌, get_or-set_same, get_or-set_other}
+use Rattle.std.proofs.Common.{inr, get_or-set_same, get_or-set_other}
 use Rattle.std.proofs.Math.Path.{◌≡◌, refl}
 use Rattle.std.proofs.Math.Decide.{dec_lt}
 use native.Mathlib.Omega.{arith}
@@ -13,12 +13,11 @@ use Rattle.std.proofs.Math.Dec.{eqb}
 use borrow.Author.Tests.{eqb-true, eqb-false, eq-eqb}
 use Rattle.clock.specs.Drift.{keeps}
 use Rattle.clock.specs.Pick.{pick}
-use Rattle.mask.specs.Mask.{has, count}
+use Rattle.mask.specs.Mask.{has}
 use Rattle.setup.specs.declared.Plan.{Plan}
-use Rattle.setup.specs.Laws.{Planned}
 use Rattle.station.specs.declared.Station.{Station}
 use Rattle.station.specs.declared.Outcome.{Outcome}
-use Rattle.station.specs.Station.{waits, mark_for, still, hear, sign, move, lands, advance}
+use Rattle.station.specs.Station.{waits, mark_for, still, hear, sign, move, advance}
 use Rattle.flight.specs.declared.Message.{Message}
 use Rattle.flight.specs.Message.{no_message, index_of, without}
 use Rattle.flight.specs.Members.{All, no_member, all_append, all-at, all_without, Agree, named-agree, index_of-named}
@@ -26,13 +25,12 @@ use Rattle.event.specs.declared.Event.{Event}
 use Rattle.event.specs.declared.Event.TheVariants.{Advance, Deliver, Send}
 use Rattle.line.specs.Run.{Run, no_station, station_at, sends, become, hear_at, moved_all, moves, lands_at}
 use Rattle.line.specs.Event.{names_of, take_out, effect, event_answer, step}
-use Rattle.line.specs.Valid.{Sound, Ruled, Due, Valid, nobody}
+use Rattle.line.specs.Valid.{Sound, Valid}
 use Rattle.line.specs.Allowed.{Advances, Delivers, FaultySends}
 use Rattle.line.proofs.Allowed.{accepted, advances, delivers, faulty-sends}
 use Rattle.line.proofs.ValidSteps.{landed-sound}
-use Rattle.line.specs.Moves.{heard, heard_run, advance_at, advance_sends, Signed}
-use Rattle.line.proofs.Moves.{lands-is, step-accepted, step-refused, moved_at, moved_length, signed-to}
-use Rattle.line.specs.History.{Entry}
+use Rattle.line.proofs.Moves.{lands-is, moved_at, signed-to}
+use Rattle.line.specs.Moves.{heard_run, advance_at, advance_sends, Signed}
 use Rattle.agreement.specs.Statement.{Shows}
 use Rattle.agreement.specs.Among.{Some, some_left, some_right, some_at, some-without}
 

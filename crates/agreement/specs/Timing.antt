@@ -1,21 +1,20 @@
 -- The clocks of a course keep the laws of `Clocks`: each step moves a clock by the drift rule, starts a round or leaves it, and
 -- the three rules of the setup are used through one consequence each.
 use Rattle.std.specs.Prelude.{ℕ, zero, suc, ◌+◌, ◌*◌, ◌-◌, ◌<◌, ◌≤◌, Bool, true, false, ◌≡◌, refl}
-use Rattle.std.proofs.Common.{ap, sym, ◌∙◌, mul-le-mul, arith}
-use Rattle.std.proofs.Math.Decide.{dec_lt, dec_le}
+use Rattle.std.proofs.Common.{ap, ◌∙◌, arith}
+use Rattle.std.proofs.Math.Decide.{dec_le}
 use Rattle.clock.specs.Limits.{parts}
 use Rattle.clock.specs.Drift.{rate, keeps}
 use Rattle.setup.specs.declared.Plan.{Plan}
-use Rattle.setup.specs.Laws.{Planned}
 use Rattle.station.specs.declared.Station.{Station}
 use Rattle.station.specs.declared.Outcome.{Outcome}
-use Rattle.station.specs.Station.{waits, mark_for, still, start, settle, gather, hear, sign, move}
+use Rattle.station.specs.Station.{waits, mark_for, still, start, settle, gather, sign, move}
 use Rattle.line.specs.Run.{Run, station_at}
 use Rattle.line.specs.Valid.{Sound}
 use Rattle.line.proofs.Moves.{settle-either, hear-either}
 use Rattle.agreement.specs.Clocks.{Clocks}
 use Rattle.agreement.specs.ClockLaws.{climbs}
-use Rattle.agreement.specs.Steps.{Step, Turn, idle, ticks, signs, hears}
+use Rattle.agreement.specs.Steps.{Turn, idle, ticks, signs, hears}
 use Rattle.agreement.specs.Course.{Course}
 use Rattle.agreement.specs.Kept.{Kept, kept-still, kept-advance, kept_on}
 

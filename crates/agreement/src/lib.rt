@@ -1,2 +1,2 @@
-// Demand 3 of document 01, proved over the model of `line`: no code, the statement and its proof are in `specs/`.
+// Demand 3 of document 01, proved over the model of `line`: no code, the statement is in `specs/`, and its proof there and in `proofs/`.
 #![tactic(auto)]

@@ -1,6 +1,6 @@
 -- An advance as the code plays it: what the increments meet, and the stations and the number of messages after each station's
 -- turn. Together the turns are the event's effect.
-use Prim.Native.Nat.{ℕ, zero, suc, ◌+◌, ◌*◌, ◌-◌, ◌^◌, ◌<◌, ◌≤◌}
+use Prim.Native.Nat.{ℕ, zero, suc, ◌+◌, ◌*◌, ◌^◌, ◌<◌, ◌≤◌}
 use Rattle.std.specs.Prelude.{Bool, ◌&&◌, ◌||◌, ◌≡◌, ltb, eqb, get_or, set}
 use Rattle.std.proofs.Math.Bool.{true, false, not}
 use mathlib.Core.List.{List, [], ◌++◌, append_assoc, append-nil}
@@ -12,7 +12,7 @@ use Rattle.std.proofs.Math.Dec.{leb}
 use borrow.Author.Tests.{le-leb}
 use Rattle.std.proofs.Math.ListN.{length, length-append}
 use Rattle.clock.specs.Limits.{max_time, max_flight}
-use Rattle.clock.specs.Drift.{keeps, in_drift, in_drift-is}
+use Rattle.clock.specs.Drift.{in_drift, in_drift-is}
 use Rattle.clock.specs.Pick.{pick, refuse}
 use Rattle.clock.specs.Tests.{neither}
 use Rattle.clock.specs.Time.{later}
@@ -27,7 +27,7 @@ use Rattle.flight.specs.Message.{decode, coded, holds, overdue}
 use Rattle.flight.proofs.Coding.{length-decode, Laid, laid-start, laid-decode, laid-length, laid_more}
 use Rattle.event.specs.declared.Event.TheVariants.{Advance}
 use Rattle.line.specs.declared.Line.{Line}
-use Rattle.line.specs.Run.{Run, sound, no_station, station_at, sends, moves, sign_to}
+use Rattle.line.specs.Run.{sound, station_at, sends}
 use Rattle.line.specs.Record.{some_station}
 use Rattle.line.specs.Event.{effect, exceeds_at, drifts_at, passes_at, full, event_rules}
 use Rattle.line.proofs.Order.{twelve}

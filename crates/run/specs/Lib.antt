@@ -7,4 +7,4 @@ pub mod Hearing
 pub mod Advance
 pub mod Follows
 pub mod Part
-pub mod PartLaws
+pub mod Ready

@@ -1,7 +1,6 @@
 -- A valid record as the code holds it, and the limits within which none of its numbers wraps: each is read off the record rules.
 use Rattle.std.specs.Prelude.{ℕ, ◌*◌, ◌<◌, ◌≤◌, Bool, ◌||◌, List, [], ◌≡◌, refl, ltb, get_or}
 use Rattle.std.proofs.Math.Bool.{true, false, not}
-use Rattle.std.proofs.Common.{ap, sym, ◌∙◌}
 use native.Mathlib.Omega.{arith}
 use Rattle.std.proofs.Math.Dec.{eqb}
 use Rattle.std.proofs.Math.ListN.{length}

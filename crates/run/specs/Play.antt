@@ -1,6 +1,6 @@
 -- An event on the record that the code holds: the answer, and the run and the words then. An accepted one leaves what document
 -- 01's step gives, and a refused one leaves all as it was.
-use Rattle.std.specs.Prelude.{ℕ, zero, suc, ◌+◌, true, false, List, [], ◌≡◌, eqb, length, get_or, set}
+use Rattle.std.specs.Prelude.{ℕ, zero, suc, true, false, List, [], ◌≡◌, eqb, length, get_or, set}
 use Rattle.std.proofs.Math.Path.{refl}
 use Rattle.std.proofs.Common.{ap}
 use borrow.Author.Tests.{ne_eqb}

@@ -3,7 +3,7 @@
 ghost use Rattle.std.specs.Prelude.{◌≡◌, ◌≤◌, ◌-◌, length};
 ghost use Rattle.clock.specs.Limits.{max_script};
 ghost use Rattle.run.specs.Part as part;
-ghost use Rattle.run.specs.PartLaws as laws;
+ghost use Rattle.run.specs.Ready as laws;
 
 use clock::{MAX_SCRIPT, Reading};
 use line::Line;

@@ -1,4 +1,2 @@
--- The lines of a rehearsal: their bytes, then the laws.
+-- The lines of a rehearsal: their bytes.
 pub mod Text
-pub mod Laws
-pub mod Room

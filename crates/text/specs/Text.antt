@@ -1,5 +1,5 @@
 -- The lines that a rehearsal prints, document 01, "One rehearsal in full", as bytes.
-use Rattle.std.specs.Prelude.{ℕ, zero, suc, ◌+◌, ◌*◌, ◌/◌, ◌%◌, ◌^◌, Bool, ◌&&◌, List, [], ◌∷◌, ◌++◌, ltb, leb, length}
+use Rattle.std.specs.Prelude.{ℕ, zero, suc, ◌+◌, ◌/◌, ◌%◌, ◌^◌, Bool, ◌&&◌, List, [], ◌∷◌, ◌++◌, ltb, leb, length}
 use Rattle.clock.specs.Pick.{pick}
 use Rattle.mask.specs.Mask.{has}
 use Rattle.number.specs.Number.{laid}
@@ -38,6 +38,10 @@ spaced x = 32 ∷ decimal x
 -- a space and the round of a station, `-` if it is faulty
 unfoldable pub round_of : Run → ℕ → List ℕ
 round_of r i = pick (has r.plan.faulty i) (32 ∷ 45 ∷ []) (spaced (station_at r i).round)
+
+-- a space and a round, `-` where the mask has its station
+abbrev pub shown_round : ℕ → ℕ → ℕ → List ℕ
+shown_round faulty i round = pick (has faulty i) (32 ∷ 45 ∷ []) (spaced round)
 
 -- of the first k stations
 unfoldable pub rounds_to : Run → ℕ → List ℕ

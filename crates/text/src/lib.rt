@@ -7,7 +7,7 @@ ghost use Rattle.clock.specs.Pick.{pick};
 ghost use Rattle.number.specs.Number.{laid};
 ghost use Rattle.line.specs.Held.{run_of};
 ghost use Rattle.text.specs.Text as text;
-ghost use Rattle.text.specs.Laws.{shown_round};
+ghost use Rattle.text.specs.Text.{shown_round};
 
 use line::Line;
 

@@ -1,6 +1,5 @@
 -- `line::bad_content` answers `bad_content`, from what `outside` and `below` answer. Assumes nothing.
 use Rattle.model.specs.Record.{bad_content}
-use borrow.Author.Rules.{rules}
 use Rattle.line.proofs.bad_content.Goals as goal
 
 pub returns : goal.returns

@@ -1,7 +1,6 @@
 -- `line::bad_message` answers `bad_message`: three tests. Assumes nothing.
 use Rattle.model.specs.Record.{bad_message}
 use Rattle.line.specs.Held.{run_of}
-use borrow.Author.Rules.{rules}
 use Rattle.line.proofs.bad_message.Goals as goal
 
 pub returns : goal.returns

@@ -2,7 +2,6 @@
 use Rattle.model.specs.Record.{bad_round}
 use Rattle.line.specs.Held.{run_of}
 use borrow.Author.Tests.{eq-eqb, ne_eqb}
-use borrow.Author.Rules.{rules}
 use Rattle.line.proofs.bad_round.Goals as goal
 
 pub returns-then-m-eq0 : goal.returns-then-m-eq0

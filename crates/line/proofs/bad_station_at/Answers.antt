@@ -4,7 +4,6 @@ use Rattle.model.specs.Record.{bad_station_at, bad_faulty}
 use Rattle.line.specs.Held.{run_of}
 use Rattle.station.specs.Record.{past_limits}
 use borrow.Author.Tests.{le-ltb}
-use borrow.Author.Rules.{rules}
 use Rattle.line.proofs.bad_station_at.Goals as goal
 
 pub station_at-s-requires : goal.station_at-s-requires

@@ -1,7 +1,6 @@
 -- `line::bad_way` answers `bad_way`, from what `sound` answers of both ends. Assumes nothing.
 use Rattle.model.specs.Record.{bad_way}
 use Rattle.line.specs.Held.{run_of}
-use borrow.Author.Rules.{rules}
 use Rattle.line.proofs.bad_way.Goals as goal
 
 pub returns : goal.returns

@@ -1,6 +1,5 @@
 -- `line::fresh` answers `begun`: the setup's number and no run, or the run at its beginning. Assumes nothing.
 use Rattle.line.specs.Fresh.{begun-no, begun-few, begun-yes}
-use borrow.Author.Rules.{rules}
 use Rattle.line.proofs.fresh.Goals as goal
 
 pub returns-then-answer-ne0 : goal.returns-then-answer-ne0

@@ -3,7 +3,6 @@ use mathlib.Core.Path.{sym, ◌∙◌}
 use Rattle.flight.proofs.Coding.{length-decode}
 use Rattle.line.specs.Held.{run_of}
 use Rattle.line.specs.Question.{in_flight}
-use borrow.Author.Rules.{rules}
 use Rattle.line.proofs.in_flight.Goals as goal
 
 pub returns-then-bad_line : goal.returns-then-bad_line

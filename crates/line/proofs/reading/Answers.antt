@@ -1,11 +1,9 @@
 -- `line::reading` answers `shown`: 10, then 31, else the station's reading and round. Assumes nothing.
 use mathlib.Core.Path.{sym, ◌∙◌}
-use borrow.Author.Tests.{not-true, not-false}
 use native.Mathlib.Omega.{arith}
 use Rattle.line.specs.Held.{run_of}
 use Rattle.line.specs.HeldLaws.{line-planned}
 use Rattle.line.specs.Question.{show_answer, shown-no, shown-yes}
-use borrow.Author.Rules.{rules}
 use Rattle.line.proofs.reading.Goals as goal
 
 pub returns-then-bad_line : goal.returns-then-bad_line

@@ -1,7 +1,7 @@
 -- `line::some_bad_message` says whether some message is bad: after i turns `bad` says it of the first i. The measure is how
 -- many are left. Assumes nothing.
 use mathlib.Core.Path.{◌≡◌, refl, ap, ◌∙◌}
-use Prim.Native.Nat.{ℕ, ◌-◌, ◌≤◌}
+use Prim.Native.Nat.{ℕ}
 use Rattle.flight.specs.Message.{decode, some_of}
 use Rattle.model.specs.Record.{bad_message}
 use Rattle.line.specs.Held.{run_of}

@@ -1,13 +1,11 @@
 -- `line::some_bad_message` says whether some message is bad: after i turns `bad` says it of the first i. The measure is how
 -- many are left. Assumes nothing.
-use mathlib.Core.Path.{◌≡◌, refl, ap, ◌∙◌}
-use Prim.Native.Nat.{ℕ, ◌-◌, ◌≤◌}
+use mathlib.Core.Path.{◌≡◌}
+use Prim.Native.Nat.{◌-◌, ◌≤◌}
 use Rattle.flight.specs.Message.{decode, some_of}
 use Rattle.model.specs.Record.{bad_message}
 use Rattle.line.specs.Held.{run_of}
-use Rattle.line.specs.HeldLaws.{messages-more}
 use mathlib.Core.List.{[]}
-use native.Mathlib.Omega.{arith}
 use Rattle.line.proofs.some_bad_message.Given as goal
 
 abbrev pub invariant-loop-i : goal.invariant-loop-i

@@ -1,12 +1,10 @@
 -- `line::some_bad_station` says whether some station's record is bad: after i turns `bad` says it of the first i. The measure
 -- is how many are left. Assumes nothing.
-use mathlib.Core.Path.{◌≡◌, ap, sym, ◌∙◌}
+use mathlib.Core.Path.{◌≡◌}
 use Prim.Native.Nat.{◌-◌, ◌≤◌}
 use Rattle.model.specs.Record.{bad_station_at, some_station}
 use Rattle.line.specs.Held.{run_of}
-use Rattle.line.specs.HeldLaws.{some-none, some_more}
 use mathlib.Core.List.{[]}
-use native.Mathlib.Omega.{arith}
 use Rattle.line.proofs.some_bad_station.Given as goal
 
 abbrev pub invariant-loop-i : goal.invariant-loop-i

@@ -1,6 +1,5 @@
 -- `line::sound` answers `sound`, from what `has` answers. Assumes nothing.
 use Rattle.model.specs.Run.{sound}
-use borrow.Author.Rules.{rules}
 use Rattle.line.proofs.sound.Goals as goal
 
 pub returns : goal.returns

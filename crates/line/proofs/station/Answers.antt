@@ -1,8 +1,6 @@
 -- `line::station` answers the station in its place, and nothing for a line of more than twelve. Assumes nothing.
-use mathlib.Core.Path.{◌∙◌}
 use borrow.Author.Tests.{le-leb, lt-leb}
 use Rattle.line.specs.Held.{station_of}
-use borrow.Author.Rules.{rules}
 use Rattle.line.proofs.station.Goals as goal
 
 pub returns-then-l-gt-MAX_STATIONS : goal.returns-then-l-gt-MAX_STATIONS

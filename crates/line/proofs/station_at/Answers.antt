@@ -1,6 +1,5 @@
 -- `line::station_at` answers the station at a place of the table, and nothing past the last. Assumes nothing.
 use Rattle.line.specs.HeldLaws.{place_none, place-some}
-use borrow.Author.Rules.{rules}
 use Rattle.line.proofs.station_at.Goals as goal
 
 pub returns-then-i-l : goal.returns-then-i-l

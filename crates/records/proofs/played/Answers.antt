@@ -1,7 +1,6 @@
 -- `records::played` lends the first numbers of the sheet, of which there are enough. Assumes nothing.
 use mathlib.Core.Path.{sym}
 use lib.Seq.{length-take-le}
-use borrow.Author.Rules.{rules}
 use Rattle.records.proofs.played.Goals as goal
 
 pub slice_bounds-play-end : goal.slice_bounds-play-end

@@ -1,6 +1,5 @@
 -- `records::table` fills twelve places. The measure is how many are left. Assumes nothing.
 use Prim.Native.Nat.{◌-◌, ◌≤◌}
-use borrow.Author.Rules.{rules}
 use Rattle.records.proofs.table.Given as goal
 
 abbrev pub invariant-loop-i : goal.invariant-loop-i

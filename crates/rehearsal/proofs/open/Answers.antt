@@ -7,7 +7,6 @@ use Rattle.script.specs.declared.read.SetupRead.{SetupRead}
 use Rattle.script.specs.Read.{read_setup}
 use Rattle.script.proofs.ReadLaws.{first-long, setup-few}
 use Rattle.rehearsal.specs.Opening.{open_is, opening-long, opening-one, opening-stops, opening-begins}
-use borrow.Author.Rules.{rules}
 use Rattle.run.specs.declared.parts.Part.{Part}
 use Rattle.rehearsal.proofs.open.Goals as goal
 
@@ -20,19 +19,25 @@ pub returns-then-read-eq1 : goal.returns-then-read-eq1
 returns-then-read-eq1 c =
     let a = c.args in
     let read = c.read_setup-read in
-    record { value = (open_is a.bytes.now a.out.now _ (opening-one a.bytes.now (omega arith) read.result read.ensures c.if-read-eq1.true) _ _
-    (c.ended-then-read-eq1.ensures ∙ rw c.setup_line-place.ensures.value refl) c.setup_line-place.ensures.out_after).0; out_after = (open_is a.bytes.now a.out.now _ (opening-one a.bytes.now (omega arith) read.result read.ensures c.if-read-eq1.true) _ _
-    (c.ended-then-read-eq1.ensures ∙ rw c.setup_line-place.ensures.value refl) c.setup_line-place.ensures.out_after).1 }
+    record {
+      value = (open_is a.bytes.now a.out.now _ (opening-one a.bytes.now (omega arith) read.result read.ensures c.if-read-eq1.true) _ _
+          (c.ended-then-read-eq1.ensures ∙ rw c.setup_line-place.ensures.value refl) c.setup_line-place.ensures.out_after).0;
+      out_after = (open_is a.bytes.now a.out.now _ (opening-one a.bytes.now (omega arith) read.result read.ensures c.if-read-eq1.true) _ _
+          (c.ended-then-read-eq1.ensures ∙ rw c.setup_line-place.ensures.value refl) c.setup_line-place.ensures.out_after).1;
+    }
 
 pub returns-then-read-ne0 : goal.returns-then-read-ne0
 returns-then-read-ne0 c =
     let a = c.args in
     let read = c.read_setup-read in
-    record { value = (open_is a.bytes.now a.out.now _
-    (opening-stops a.bytes.now (omega arith) read.result read.ensures c.if-read-eq1.false c.if-read-ne0.true) _ _
-    (c.ended-then-read-ne0.ensures ∙ rw c.script_line-place-then-read-ne0.ensures.value refl) c.script_line-place-then-read-ne0.ensures.out_after).0; out_after = (open_is a.bytes.now a.out.now _
-    (opening-stops a.bytes.now (omega arith) read.result read.ensures c.if-read-eq1.false c.if-read-ne0.true) _ _
-    (c.ended-then-read-ne0.ensures ∙ rw c.script_line-place-then-read-ne0.ensures.value refl) c.script_line-place-then-read-ne0.ensures.out_after).1 }
+    record {
+      value = (open_is a.bytes.now a.out.now _
+          (opening-stops a.bytes.now (omega arith) read.result read.ensures c.if-read-eq1.false c.if-read-ne0.true) _ _
+          (c.ended-then-read-ne0.ensures ∙ rw c.script_line-place-then-read-ne0.ensures.value refl) c.script_line-place-then-read-ne0.ensures.out_after).0;
+      out_after = (open_is a.bytes.now a.out.now _
+          (opening-stops a.bytes.now (omega arith) read.result read.ensures c.if-read-eq1.false c.if-read-ne0.true) _ _
+          (c.ended-then-read-ne0.ensures ∙ rw c.script_line-place-then-read-ne0.ensures.value refl) c.script_line-place-then-read-ne0.ensures.out_after).1;
+    }
 
 pub slice_bounds-first-end : goal.slice_bounds-first-end
 slice_bounds-first-end c =
@@ -58,6 +63,6 @@ returns c =
     let read = c.read_setup-read in
     let part : Part = record { answer = c.fresh-begun.result.answer; line = c.fresh-begun.result.line; next = read.result.next; number = 0; place = c.setup_line.result } in
     let is = open_is a.bytes.now a.out.now _
-        (opening-begins a.bytes.now (omega arith) read.result read.ensures c.if-read-eq1.false c.if-read-ne0.false _ c.fresh-begun.ensures) part _
-        (rw c.setup_line.ensures.value refl) c.setup_line.ensures.out_after in
+    (opening-begins a.bytes.now (omega arith) read.result read.ensures c.if-read-eq1.false c.if-read-ne0.false _ c.fresh-begun.ensures) part _
+    (rw c.setup_line.ensures.value refl) c.setup_line.ensures.out_after in
     record { value = is.0; out_after = is.1 }

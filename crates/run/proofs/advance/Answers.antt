@@ -12,7 +12,6 @@ use Rattle.line.specs.Held.{run_of}
 use Rattle.run.specs.Limits.{held-count}
 use Rattle.run.specs.Play.{comes-no}
 use Rattle.run.specs.Advance.{turns-few, advance-rules, advance-comes}
-use borrow.Author.Rules.{rules}
 use Rattle.run.proofs.advance.Goals as goal
 
 pub returns-then-time-t : goal.returns-then-time-t

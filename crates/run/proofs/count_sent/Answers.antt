@@ -6,7 +6,6 @@ use Prim.Native.Nat.{◌≤◌}
 use native.Mathlib.Omega.{arith}
 use Rattle.flight.proofs.Sending.{count-few}
 use Rattle.run.specs.Sends.{sent_by, part-most, sent-quiet}
-use borrow.Author.Rules.{rules}
 use Rattle.run.proofs.count_sent.Goals as goal
 
 pub returns-then-quiet : goal.returns-then-quiet

@@ -4,8 +4,8 @@ use Prim.Native.Nat.{◌+◌}
 use mathlib.Core.Path.{sym, ◌∙◌}
 use native.Mathlib.Omega.{arith}
 use Rattle.run.specs.Sends.{sent-few, sends_none}
-use Rattle.run.specs.Hearing.{stands-found, lies-limits, does-none, does-below, does-full, does-room, does-comes}
-use borrow.Author.Rules.{rules}
+use Rattle.run.specs.Hearing.{stands-found, lies-limits}
+use Rattle.run.proofs.Hearing.{does-none, does-below, does-full, does-room, does-comes}
 use Rattle.run.proofs.deliver.Goals as goal
 
 pub returns-then-at-count : goal.returns-then-at-count

@@ -1,8 +1,7 @@
 -- `run::hear` comes to what the deliver or the faulty send comes to; no station hears an advance. Assumes nothing.
-use mathlib.Core.Path.{sym, subst}
+use mathlib.Core.Path.{subst}
 use Prim.Native.Nat.{ℕ}
 use Rattle.run.specs.Hearing.{Stands, recipient-deliver, recipient-send, recipient-advance, hears-deliver, hears-send}
-use borrow.Author.Rules.{rules}
 use Rattle.run.proofs.hear.Goals as goal
 
 pub deliver-requires : goal.deliver-requires

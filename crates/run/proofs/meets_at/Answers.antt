@@ -1,6 +1,5 @@
 -- `run::meets_at` answers which of 12, 13 and 14 a station meets. Assumes nothing.
 use mathlib.Core.Path.{refl}
-use borrow.Author.Rules.{rules}
 use Rattle.run.proofs.meets_at.Goals as goal
 
 pub returns : goal.returns

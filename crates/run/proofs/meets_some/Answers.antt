@@ -2,7 +2,6 @@
 -- measure is how many are left. Assumes nothing.
 use mathlib.Core.List.{[]}
 use mathlib.Core.Path.{◌≡◌, ap, sym, ◌∙◌}
-use Prim.Native.Nat.{ℕ, ◌-◌, ◌≤◌}
 use native.Mathlib.Omega.{arith}
 use Rattle.line.specs.Record.{some_station}
 use Rattle.line.specs.Event.{exceeds_at, drifts_at}

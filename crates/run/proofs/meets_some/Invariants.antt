@@ -1,16 +1,12 @@
 -- `run::meets_some` says which of 12, 13 and 14 some station meets: after i turns the three tests say it of the first i. The
 -- measure is how many are left. Assumes nothing.
 use mathlib.Core.List.{[]}
-use mathlib.Core.Path.{◌≡◌, ap, sym, ◌∙◌}
-use Prim.Native.Nat.{ℕ, ◌-◌, ◌≤◌}
-use native.Mathlib.Omega.{arith}
+use mathlib.Core.Path.{◌≡◌}
+use Prim.Native.Nat.{◌-◌, ◌≤◌}
 use Rattle.line.specs.Record.{some_station}
 use Rattle.line.specs.Event.{exceeds_at, drifts_at}
 use Rattle.line.specs.Held.{run_of}
-use Rattle.line.specs.HeldLaws.{some-none, some_more}
-use Rattle.run.specs.declared.Meets.{Meets}
-use Rattle.run.specs.Limits.{table-station}
-use Rattle.run.specs.Advance.{blocked_at, meets-is}
+use Rattle.run.specs.Advance.{blocked_at}
 use Rattle.run.proofs.meets_some.Given as goal
 
 abbrev pub invariant-loop-i : goal.invariant-loop-i

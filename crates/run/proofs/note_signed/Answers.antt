@@ -1,7 +1,6 @@
 -- `run::note_signed` notes the last signed rounds: after i turns those of the first i stations. The measure is how many are left.
 -- Assumes nothing.
 use mathlib.Core.Path.{◌≡◌, ap, ◌∙◌}
-use Prim.Native.Nat.{◌-◌, ◌≤◌}
 use native.Mathlib.Omega.{arith}
 use lib.ListN.{length}
 use Rattle.run.specs.Limits.{table-station}

@@ -1,11 +1,8 @@
 -- `run::note_signed` notes the last signed rounds: after i turns those of the first i stations. The measure is how many are left.
 -- Assumes nothing.
-use mathlib.Core.Path.{◌≡◌, ap, ◌∙◌}
+use mathlib.Core.Path.{◌≡◌}
 use Prim.Native.Nat.{◌-◌, ◌≤◌}
-use native.Mathlib.Omega.{arith}
-use lib.ListN.{length}
-use Rattle.run.specs.Limits.{table-station}
-use Rattle.run.specs.Hearing.{signed_to, signed-none, signed-length, signed-next}
+use Rattle.run.specs.Hearing.{signed_to}
 use Rattle.run.proofs.note_signed.Given as goal
 
 abbrev pub invariant-loop-i : goal.invariant-loop-i

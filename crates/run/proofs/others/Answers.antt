@@ -1,8 +1,6 @@
 -- `run::others` answers the sound stations but i. Assumes nothing.
-use mathlib.Core.Path.{ap₂, ◌∙◌}
-use Rattle.mask.specs.Mask.{minus}
+use mathlib.Core.Path.{◌∙◌}
 use Rattle.line.specs.Run.{others}
-use borrow.Author.Rules.{rules}
 use Rattle.run.proofs.others.Goals as goal
 
 pub returns : goal.returns

@@ -4,7 +4,6 @@ use native.Mathlib.Omega.{arith}
 use Rattle.run.specs.Limits.{advance-going}
 use Rattle.run.specs.Play.{comes-no, step-barred, step-comes}
 use Rattle.run.specs.Hearing.{never-deliver, never-send}
-use borrow.Author.Rules.{rules}
 use Rattle.run.proofs.pass.Goals as goal
 
 pub returns-then-barred : goal.returns-then-barred

@@ -1,9 +1,8 @@
 -- `run::play` comes to 10, or to what the step of a valid record comes to. Assumes nothing.
-use mathlib.Core.Path.{◌≡◌, refl, sym, ◌∙◌}
+use mathlib.Core.Path.{refl, sym, ◌∙◌}
 use native.Mathlib.Omega.{arith}
 use Rattle.run.specs.Limits.{held-is}
 use Rattle.run.specs.Play.{play_answer, comes-no}
-use borrow.Author.Rules.{rules}
 use Rattle.run.proofs.play.Goals as goal
 
 pub returns-then-bad_line : goal.returns-then-bad_line

@@ -3,11 +3,10 @@
 use Prim.Native.Nat.{◌+◌}
 use mathlib.Core.Path.{sym, ◌∙◌}
 use native.Mathlib.Omega.{arith}
-use borrow.Author.Tests.{not-true, not-false}
 use Rattle.run.specs.Limits.{held-settled}
 use Rattle.run.specs.Sends.{sent-few, sends_none}
-use Rattle.run.specs.Hearing.{lies-limits, does-sound, does-unsigned, does-filled, does-sent}
-use borrow.Author.Rules.{rules}
+use Rattle.run.specs.Hearing.{lies-limits}
+use Rattle.run.proofs.Hearing.{does-sound, does-unsigned, does-filled, does-sent}
 use Rattle.run.proofs.send.Goals as goal
 
 pub returns-then-not-has : goal.returns-then-not-has

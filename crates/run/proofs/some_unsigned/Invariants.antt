@@ -1,11 +1,9 @@
 -- `run::some_unsigned` says whether some station is a sound signer that did not sign: after i turns `bad` says it of the first
 -- i. The measure is how many are left. Assumes nothing.
-use mathlib.Core.Path.{◌≡◌, ap, sym, ◌∙◌}
+use mathlib.Core.Path.{◌≡◌}
 use Prim.Native.Nat.{◌-◌, ◌≤◌}
-use native.Mathlib.Omega.{arith}
 use Rattle.line.specs.Record.{some_station}
-use Rattle.line.specs.HeldLaws.{some-none, some_more}
-use Rattle.run.specs.Hearing.{unsigned_by, unsigned-one}
+use Rattle.run.specs.Hearing.{unsigned_by}
 use Rattle.run.proofs.some_unsigned.Given as goal
 
 abbrev pub invariant-loop-i : goal.invariant-loop-i

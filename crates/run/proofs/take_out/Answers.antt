@@ -1,7 +1,6 @@
 -- `run::take_out` takes the message out of the flight; what it notes is no part of the run. Assumes nothing.
 use mathlib.Core.Path.{ap}
 use Rattle.flight.specs.declared.Answer.{Answer}
-use borrow.Author.Rules.{rules}
 use Rattle.run.proofs.take_out.Goals as goal
 
 pub returns : goal.returns

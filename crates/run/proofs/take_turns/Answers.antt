@@ -1,7 +1,6 @@
 -- `run::take_turns` lets each station take its turn: after i turns the first i stand in their places and so many messages are
 -- sent. The measure is how many are left. Assumes nothing.
 use mathlib.Core.Path.{◌≡◌, ap, ◌∙◌}
-use Prim.Native.Nat.{ℕ, ◌-◌, ◌≤◌}
 use native.Mathlib.Omega.{arith}
 use Rattle.run.specs.Limits.{table-station}
 use Rattle.run.specs.Advance.{stations_to, sent_to, goes-is, turns-few, turns-start, turn-stations, turn-sent}

@@ -2,10 +2,10 @@
 -- The measure is how many are left. Assumes nothing.
 use mathlib.Core.List.{[], ◌++◌}
 use mathlib.Core.Path.{◌≡◌, refl, ap, ◌∙◌}
-use Prim.Native.Nat.{ℕ, ◌+◌, ◌-◌, ◌^◌, ◌<◌, ◌≤◌}
+use Prim.Native.Nat.{ℕ, ◌+◌, ◌^◌, ◌<◌}
 use native.Mathlib.Omega.{arith}
 use Rattle.flight.specs.Message.{decode, coded}
-use Rattle.flight.proofs.Coding.{Laid, laid-length}
+use Rattle.flight.proofs.Coding.{laid-length}
 use Rattle.line.specs.Held.{run_of}
 use Rattle.line.specs.Moves.{advance_sends}
 use Rattle.run.specs.Limits.{table-station, station-small}

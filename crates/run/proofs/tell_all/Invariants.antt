@@ -1,16 +1,13 @@
 -- `run::tell_all` sends what each station sends, in order: after i turns what the first i sent follows the messages that stood.
 -- The measure is how many are left. Assumes nothing.
 use mathlib.Core.List.{[], ◌++◌}
-use mathlib.Core.Path.{◌≡◌, refl, ap, ◌∙◌}
-use Prim.Native.Nat.{ℕ, ◌+◌, ◌-◌, ◌^◌, ◌<◌, ◌≤◌}
-use native.Mathlib.Omega.{arith}
-use Rattle.flight.specs.Message.{decode, coded}
-use Rattle.flight.proofs.Coding.{Laid, laid-length}
+use mathlib.Core.Path.{◌≡◌}
+use Prim.Native.Nat.{◌+◌, ◌-◌, ◌≤◌}
+use Rattle.flight.specs.Message.{decode}
+use Rattle.flight.proofs.Coding.{Laid}
 use Rattle.line.specs.Held.{run_of}
 use Rattle.line.specs.Moves.{advance_sends}
-use Rattle.run.specs.Limits.{table-station, station-small}
-use Rattle.run.specs.Advance.{sent_to, goes-is, turn-sent, turn-room, turn-laid, turns-laid}
-use borrow.Author.Rules.{rules}
+use Rattle.run.specs.Advance.{sent_to}
 use Rattle.run.proofs.tell_all.Given as goal
 
 abbrev pub invariant-loop-i : goal.invariant-loop-i

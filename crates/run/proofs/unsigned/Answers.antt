@@ -1,7 +1,6 @@
 -- `run::unsigned` asks for the signers only where the round is the one waited for. Assumes nothing.
 use mathlib.Core.Path.{refl}
 use borrow.Author.Tests.{eq-eqb, ne_eqb}
-use borrow.Author.Rules.{rules}
 use Rattle.run.proofs.unsigned.Goals as goal
 
 pub returns-then-round-s : goal.returns-then-round-s

@@ -1,6 +1,5 @@
 -- `run::unsigned_at` is a conjunction of three tests. Assumes nothing.
 use mathlib.Core.Path.{refl}
-use borrow.Author.Rules.{rules}
 use Rattle.run.proofs.unsigned_at.Goals as goal
 
 pub returns : goal.returns

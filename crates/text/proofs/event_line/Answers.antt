@@ -1,11 +1,9 @@
 -- `text::event_line` lays the number, the answer and the end one behind the other, where there is room. Assumes nothing.
 use mathlib.Core.Path.{refl, sym, ◌∙◌}
 use native.Mathlib.Omega.{arith}
-use borrow.Author.Tests.{not-true, not-false}
 use Rattle.text.specs.Text.{line_with}
-use Rattle.text.specs.Laws.{written-more, written-decimal, written-spaced, end-long, end_none, fits-end}
-use Rattle.text.specs.Room.{roomy-has}
-use borrow.Author.Rules.{rules}
+use Rattle.text.proofs.Laws.{written-more, written-decimal, written-spaced, end-long, end_none, fits-end}
+use Rattle.text.proofs.Room.{roomy-has}
 use Rattle.text.proofs.event_line.Goals as goal
 
 pub returns-then-end-gt278 : goal.returns-then-end-gt278

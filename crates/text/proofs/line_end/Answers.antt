@@ -2,12 +2,10 @@
 use mathlib.Core.List.{[]}
 use mathlib.Core.Path.{refl, sym, ◌∙◌}
 use native.Mathlib.Omega.{arith}
-use borrow.Author.Tests.{not-true, not-false}
 use Rattle.line.specs.Held.{run_of}
 use Rattle.text.specs.Text.{single, event_end}
-use Rattle.text.specs.Laws.{written_none, written-more, written-spaced, written-rounds, fits_not, fits-none, fits-well}
-use Rattle.text.specs.Room.{roomy-has}
-use borrow.Author.Rules.{rules}
+use Rattle.text.proofs.Laws.{written_none, written-more, written-spaced, written-rounds, fits_not, fits-none, fits-well}
+use Rattle.text.proofs.Room.{roomy-has}
 use Rattle.text.proofs.line_end.Goals as goal
 
 pub returns-then-l-gt12 : goal.returns-then-l-gt12

@@ -1,7 +1,6 @@
 -- `text::places` counts the digits: up to five by comparing; then what is left of the number loses one digit a turn. The measure
 -- is what is left. Assumes nothing.
-use native.Mathlib.Omega.{arith}
-use Rattle.text.specs.Laws.{Counted, counted_start, counted-2, counted-3, counted-4, counted-5, counted_next, counted-end}
+use Rattle.text.proofs.Laws.{Counted}
 use Rattle.text.proofs.places.Given as goal
 
 abbrev pub invariant-loop-rest : goal.invariant-loop-rest

@@ -1,7 +1,6 @@
 -- `text::put_byte` lays one byte. Assumes nothing.
 use mathlib.Core.Path.{refl}
-use Rattle.text.specs.Laws.{laid_one}
-use borrow.Author.Rules.{rules}
+use Rattle.text.proofs.Laws.{laid_one}
 use Rattle.text.proofs.put_byte.Goals as goal
 
 pub returns : goal.returns

@@ -5,7 +5,7 @@ use native.Mathlib.Omega.{arith}
 use borrow.Author.Rules.{rules}
 use Rattle.number.specs.Number.{laid}
 use Rattle.text.specs.Text.{last_digits}
-use Rattle.text.specs.Laws.{laid_one, laid_both, length_digits, one-digit, two_digits, four-digits}
+use Rattle.text.proofs.Laws.{laid_one, laid_both, length_digits, one-digit, two_digits, four-digits}
 use Rattle.text.proofs.put_decimal.Goals as goal
 
 pub overflow_cast-out : goal.overflow_cast-out

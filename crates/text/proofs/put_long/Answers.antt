@@ -1,10 +1,9 @@
 -- `text::put_long` spells a number from its last digit on: each turn lays one more digit in front. The measure is how many
 -- are left. Assumes nothing.
 use Prim.Native.Nat.{ℕ, ◌+◌}
-use mathlib.Core.Path.{◌≡◌, ap}
+use mathlib.Core.Path.{ap}
 use native.Mathlib.Omega.{arith}
-use Rattle.text.specs.Text.{places}
-use Rattle.text.specs.Laws.{places-few, Spelt, spelt-start, spelt-next, spelt-end}
+use Rattle.text.proofs.Laws.{places-few, spelt-start, spelt-next, spelt-end}
 use Rattle.text.proofs.put_long.Goals as goal
 
 pub loop-left-init : goal.loop-left-init

@@ -1,10 +1,8 @@
 -- `text::put_long` spells a number from its last digit on: each turn lays one more digit in front. The measure is how many
 -- are left. Assumes nothing.
-use Prim.Native.Nat.{ℕ, ◌+◌}
-use mathlib.Core.Path.{◌≡◌, ap}
-use native.Mathlib.Omega.{arith}
+use mathlib.Core.Path.{◌≡◌}
 use Rattle.text.specs.Text.{places}
-use Rattle.text.specs.Laws.{places-few, Spelt, spelt-start, spelt-next, spelt-end}
+use Rattle.text.proofs.Laws.{Spelt}
 use Rattle.text.proofs.put_long.Given as goal
 
 abbrev pub invariant-loop-left : goal.invariant-loop-left

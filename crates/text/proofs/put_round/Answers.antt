@@ -2,8 +2,7 @@
 use mathlib.Core.Path.{sym, ◌∙◌}
 use native.Mathlib.Omega.{arith}
 use Rattle.text.specs.Text.{single}
-use Rattle.text.specs.Laws.{laid_both, length-spaced}
-use borrow.Author.Rules.{rules}
+use Rattle.text.proofs.Laws.{laid_both, length-spaced}
 use Rattle.text.proofs.put_round.Goals as goal
 
 pub returns-then-has : goal.returns-then-has

@@ -2,13 +2,13 @@
 -- are left. Assumes nothing.
 use mathlib.Core.List.{[]}
 use mathlib.Core.Path.{◌≡◌, refl, ap, ◌∙◌}
-use Prim.Native.Nat.{ℕ, ◌+◌, ◌*◌, ◌-◌, ◌≤◌}
+use Prim.Native.Nat.{ℕ, ◌+◌}
 use native.Mathlib.Omega.{arith}
 use lib.ListN.{length}
 use Rattle.number.specs.Number.{laid}
 use Rattle.line.specs.Held.{run_of}
 use Rattle.text.specs.Text.{rounds_to}
-use Rattle.text.specs.Laws.{Written, rounds-start, rounds-next, round-shown}
+use Rattle.text.proofs.Laws.{rounds-start, rounds-next, round-shown}
 use Rattle.text.proofs.put_rounds.Goals as goal
 
 pub loop-i-init : goal.loop-i-init

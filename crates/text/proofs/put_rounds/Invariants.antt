@@ -1,14 +1,10 @@
 -- `text::put_rounds` lays the rounds one behind the other: after i turns those of the first i stations. The measure is how many
 -- are left. Assumes nothing.
 use mathlib.Core.List.{[]}
-use mathlib.Core.Path.{◌≡◌, refl, ap, ◌∙◌}
-use Prim.Native.Nat.{ℕ, ◌+◌, ◌*◌, ◌-◌, ◌≤◌}
-use native.Mathlib.Omega.{arith}
-use lib.ListN.{length}
-use Rattle.number.specs.Number.{laid}
+use Prim.Native.Nat.{◌*◌, ◌-◌, ◌≤◌}
 use Rattle.line.specs.Held.{run_of}
 use Rattle.text.specs.Text.{rounds_to}
-use Rattle.text.specs.Laws.{Written, rounds-start, rounds-next, round-shown}
+use Rattle.text.proofs.Laws.{Written}
 use Rattle.text.proofs.put_rounds.Given as goal
 
 abbrev pub invariant-loop-i : goal.invariant-loop-i

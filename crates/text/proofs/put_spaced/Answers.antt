@@ -1,8 +1,7 @@
 -- `text::put_spaced` lays a space and a number behind it. Assumes nothing.
 use native.Mathlib.Omega.{arith}
 use Rattle.text.specs.Text.{single, spaced, decimal}
-use Rattle.text.specs.Laws.{laid_both}
-use borrow.Author.Rules.{rules}
+use Rattle.text.proofs.Laws.{laid_both}
 use Rattle.text.proofs.put_spaced.Goals as goal
 
 pub returns : goal.returns

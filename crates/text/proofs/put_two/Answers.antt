@@ -4,8 +4,7 @@ use mathlib.Core.Path.{sym, ap, ◌∙◌}
 use native.Mathlib.Omega.{arith}
 use Rattle.number.specs.Number.{laid}
 use Rattle.text.specs.Text.{single}
-use Rattle.text.specs.Laws.{laid_both, last-two}
-use borrow.Author.Rules.{rules}
+use Rattle.text.proofs.Laws.{laid_both, last-two}
 use Rattle.text.proofs.put_two.Goals as goal
 
 pub returns : goal.returns

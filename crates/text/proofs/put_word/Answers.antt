@@ -1,7 +1,6 @@
 -- `text::put_word` lays the bytes where there is room for them. Assumes nothing.
 use mathlib.Core.Path.{refl, sym, ◌∙◌}
 use Rattle.writer.specs.Laws.{long}
-use borrow.Author.Rules.{rules}
 use Rattle.text.proofs.put_word.Goals as goal
 
 pub returns : goal.returns

@@ -1,7 +1,6 @@
 -- `text::roomy` compares the place with where the last line could begin. Assumes nothing.
 use native.Mathlib.Omega.{arith}
-use Rattle.text.specs.Room.{roomy-not, roomy-is}
-use borrow.Author.Rules.{rules}
+use Rattle.text.proofs.Room.{roomy-not, roomy-is}
 use Rattle.text.proofs.roomy.Goals as goal
 
 pub returns-then-out-lt-LONGEST : goal.returns-then-out-lt-LONGEST

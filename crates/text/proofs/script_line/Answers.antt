@@ -1,6 +1,5 @@
 -- `text::script_line` tells the word `script` and its number. Assumes nothing.
 use Rattle.text.specs.Text.{script_line}
-use borrow.Author.Rules.{rules}
 use Rattle.text.proofs.script_line.Goals as goal
 
 pub returns : goal.returns

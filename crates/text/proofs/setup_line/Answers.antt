@@ -1,6 +1,5 @@
 -- `text::setup_line` tells the word `setup` and its number. Assumes nothing.
 use Rattle.text.specs.Text.{setup_line}
-use borrow.Author.Rules.{rules}
 use Rattle.text.proofs.setup_line.Goals as goal
 
 pub returns : goal.returns

@@ -1,11 +1,9 @@
 -- `text::told_line` lays the word, the number and the line's end one behind the other, where there is room. Assumes nothing.
 use mathlib.Core.Path.{refl, sym, ◌∙◌}
 use native.Mathlib.Omega.{arith}
-use borrow.Author.Tests.{not-true, not-false}
 use Rattle.text.specs.Text.{single, told}
-use Rattle.text.specs.Laws.{written_none, written-more, written-spaced}
-use Rattle.text.specs.Room.{roomy-has}
-use borrow.Author.Rules.{rules}
+use Rattle.text.proofs.Laws.{written_none, written-more, written-spaced}
+use Rattle.text.proofs.Room.{roomy-has}
 use Rattle.text.proofs.told_line.Goals as goal
 
 pub returns-then-not-roomy : goal.returns-then-not-roomy

@@ -1,6 +1,6 @@
 -- `writer::copy` pastes the bytes: after i turns the first i of them stand there. The measure is what is left of them.
 -- Assumes nothing.
-use Prim.Native.Nat.{ℕ, ◌+◌, ◌-◌, ◌≤◌, ◌<◌}
+use Prim.Native.Nat.{ℕ, ◌+◌, ◌<◌}
 use mathlib.Core.Path.{◌≡◌, refl, sym, ◌∙◌, ap}
 use mathlib.Core.List.{List}
 use lib.ListN.{length, take, set, get_or, length-set}

@@ -2,7 +2,6 @@
 use mathlib.Core.Path.{sym, ◌∙◌}
 use Rattle.clock.specs.Pick.{or_else-first, or_else-rest}
 use Rattle.writer.specs.Write.{event_answer}
-use borrow.Author.Rules.{rules}
 use Rattle.writer.proofs.event_answer.Goals as goal
 
 pub returns-then-number-ne0 : goal.returns-then-number-ne0

@@ -3,7 +3,6 @@
 use mathlib.Core.Path.{◌∙◌, ap}
 use Rattle.number.specs.Number.{laid}
 use Rattle.writer.specs.Laws.{grouped-count}
-use borrow.Author.Rules.{rules}
 use native.Mathlib.Omega.{arith}
 use Rattle.writer.proofs.put_number.Goals as goal
 

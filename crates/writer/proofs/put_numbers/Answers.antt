@@ -1,6 +1,6 @@
 -- `writer::put_numbers` lays the bytes of a row down: after i turns those of the first i numbers. The measure is what is left
 -- of the row. Assumes nothing.
-use Prim.Native.Nat.{ℕ, ◌+◌, ◌-◌, ◌≤◌, ◌<◌}
+use Prim.Native.Nat.{ℕ, ◌+◌, ◌≤◌, ◌<◌}
 use mathlib.Core.List.{List}
 use mathlib.Core.Path.{◌≡◌, refl, sym, ◌∙◌, ap, ap₂}
 use native.Mathlib.Numerals.{add-one}

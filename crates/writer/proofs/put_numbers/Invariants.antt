@@ -1,15 +1,10 @@
 -- `writer::put_numbers` lays the bytes of a row down: after i turns those of the first i numbers. The measure is what is left
 -- of the row. Assumes nothing.
-use Prim.Native.Nat.{ℕ, ◌+◌, ◌-◌, ◌≤◌, ◌<◌}
+use Prim.Native.Nat.{ℕ, ◌+◌, ◌-◌, ◌≤◌}
 use mathlib.Core.List.{List}
-use mathlib.Core.Path.{◌≡◌, refl, sym, ◌∙◌, ap, ap₂}
-use native.Mathlib.Numerals.{add-one}
-use lib.ListN.{length, take, get_or, length-append}
-use lib.Seq.{take-length}
-use Rattle.number.specs.Number.{number_bytes, bytes_of, laid}
-use Rattle.number.proofs.Laws.{laid_none, laid_on, length-laid}
-use Rattle.writer.specs.Laws.{bytes-more, bytes-part}
-use native.Mathlib.Omega.{arith}
+use mathlib.Core.Path.{◌≡◌}
+use lib.ListN.{length, take}
+use Rattle.number.specs.Number.{bytes_of, laid}
 use Rattle.writer.proofs.put_numbers.Given as goal
 
 pub record Put (vs out₀ : List ℕ) (at i : ℕ) (out : List ℕ) (place : ℕ) : Type 0 where

@@ -1,6 +1,6 @@
 -- `writer::width` adds up the lengths: after i turns those of the first i numbers, each at most 10. The measure is what is
 -- left of the numbers. Assumes nothing.
-use Prim.Native.Nat.{ℕ, ◌+◌, ◌*◌, ◌-◌, ◌≤◌, ◌<◌}
+use Prim.Native.Nat.{ℕ, ◌+◌, ◌<◌}
 use mathlib.Core.List.{List}
 use mathlib.Core.Path.{◌≡◌, refl, ◌∙◌, ap}
 use native.Mathlib.Numerals.{add-one}

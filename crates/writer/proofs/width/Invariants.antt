@@ -1,14 +1,9 @@
 -- `writer::width` adds up the lengths: after i turns those of the first i numbers, each at most 10. The measure is what is
 -- left of the numbers. Assumes nothing.
-use Prim.Native.Nat.{ℕ, ◌+◌, ◌*◌, ◌-◌, ◌≤◌, ◌<◌}
-use mathlib.Core.List.{List}
-use mathlib.Core.Path.{◌≡◌, refl, ◌∙◌, ap}
-use native.Mathlib.Numerals.{add-one}
-use lib.ListN.{length, take, get_or, length-append}
-use lib.Seq.{take-length}
-use Rattle.number.specs.Number.{number_bytes, bytes_of}
-use Rattle.writer.specs.Laws.{grouped-count, bytes-more}
-use native.Mathlib.Omega.{arith}
+use Prim.Native.Nat.{◌*◌, ◌-◌, ◌≤◌}
+use mathlib.Core.Path.{◌≡◌}
+use lib.ListN.{length, take}
+use Rattle.number.specs.Number.{bytes_of}
 use Rattle.writer.proofs.width.Given as goal
 
 abbrev pub invariant-loop-i : goal.invariant-loop-i

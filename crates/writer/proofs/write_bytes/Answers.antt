@@ -4,7 +4,6 @@ use native.Mathlib.Omega.{arith}
 use lib.Seq.{take-length}
 use Rattle.number.specs.Number.{laid}
 use Rattle.writer.specs.Laws.{short, long}
-use borrow.Author.Rules.{rules}
 use Rattle.writer.proofs.write_bytes.Goals as goal
 
 pub returns-then-space-at : goal.returns-then-space-at

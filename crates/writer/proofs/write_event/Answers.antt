@@ -2,7 +2,6 @@
 -- nothing.
 use Rattle.script.specs.Write.{event_numbers}
 use Rattle.writer.specs.Laws.{refused-writes, accepted-writes}
-use borrow.Author.Rules.{rules}
 use Rattle.writer.proofs.write_event.Goals as goal
 
 pub returns-then-number-ne0 : goal.returns-then-number-ne0

@@ -3,7 +3,6 @@ use mathlib.Core.Path.{ap, ◌∙◌}
 use Rattle.number.specs.Number.{number_bytes}
 use Rattle.writer.specs.Laws.{grouped-count, short, long}
 use Rattle.writer.specs.declared.Written.TheVariants as written
-use borrow.Author.Rules.{rules}
 use native.Mathlib.Omega.{arith}
 use Rattle.writer.proofs.write_number.Goals as goal
 

@@ -8,7 +8,6 @@ use Rattle.number.specs.Number.{bytes_of, laid}
 use Rattle.number.proofs.Laws.{rows-length}
 use Rattle.writer.specs.Laws.{rows-laid, short, long}
 use Rattle.writer.specs.declared.Written.TheVariants as written
-use borrow.Author.Rules.{rules}
 use native.Mathlib.Omega.{arith}
 use Rattle.writer.proofs.write_numbers.Goals as goal
 

@@ -2,7 +2,6 @@
 use mathlib.Core.Path.{refl}
 use Rattle.script.specs.Write.{setup_numbers}
 use Rattle.writer.specs.Laws.{refused-writes, accepted-writes}
-use borrow.Author.Rules.{rules}
 use Rattle.writer.proofs.write_setup.Goals as goal
 
 pub returns-then-number-ne0 : goal.returns-then-number-ne0

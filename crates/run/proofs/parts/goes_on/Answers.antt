@@ -5,7 +5,6 @@ use lib.Dec.{ltb}
 use lib.ListN.{length}
 use Rattle.clock.specs.Limits.{max_script}
 use Rattle.run.specs.Part.{goes_on}
-use borrow.Author.Rules.{rules}
 use Rattle.run.proofs.parts.goes_on.Goals as goal
 
 pub returns : goal.returns

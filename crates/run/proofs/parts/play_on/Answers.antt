@@ -1,17 +1,13 @@
 -- `run::play_on` plays one event after the other: what is still to be played from where it stands is what was to be played from
 -- the start, the record stays valid, and the rounds signed and the line's end are kept beside it. The measure is how many events
 -- may still come. Assumes nothing.
-use Prim.Native.Nat.{◌-◌}
-use mathlib.Core.Logic.{◌⊎◌, inl, inr}
-use mathlib.Core.Path.{◌≡◌, refl, ap, sym, ◌∙◌}
+use mathlib.Core.Path.{refl, sym, ◌∙◌}
 use native.Mathlib.Omega.{arith}
-use lib.ListN.{length, take}
+use lib.ListN.{take}
 use lib.Seq.{length-take-le}
-use Rattle.clock.specs.Limits.{max_script}
 use Rattle.run.specs.Hearing.{line-stands}
-use Rattle.run.specs.Part.{Standing, standing}
-use Rattle.run.specs.PartLaws.{Onward, Beside, Turned, turned_as, goes_number, ready-onward, onward-read, onward-ends, part-from, turn-held, turn-few, turn-increments, turn-read, turn-hearer, turn-nobody, turn-plan, turn-passes, turn-starts, turn-stays, turn-shown}
-use borrow.Author.Rules.{rules}
+use Rattle.run.specs.Part.{standing}
+use Rattle.run.proofs.PartLaws.{Turned, turned_as, goes_number, ready-onward, onward-read, onward-ends, part-from, turn-held, turn-few, turn-increments, turn-read, turn-hearer, turn-nobody, turn-plan, turn-passes, turn-starts, turn-stays, turn-shown}
 use Rattle.run.proofs.parts.play_on.Goals as goal
 use Rattle.run.proofs.parts.play_on.Goals.{Joined-i-n, then-i-n, else-i-n+then-s-was, else-i-n+else-s-was}
 
@@ -22,12 +18,12 @@ turned c =
     let inv = c.loop-read.invariant in
     let q = c.hearer-i.ensures in
     elim c.if-i-n.branch [
-    | then-i-n w ↦
-        turned_as (turn-passes _ _ _ inv.0 inv.1 _ _ w.pass-p.result _ w.pass-p.ensures.value w.pass-p.ensures.words_after _ w.note_signed.ensures _ _ w.line_end-long.ensures.value w.line_end-long.ensures.out_after) w.words-is w.signed-is w.end-is w.long-is w.line-is w.answer-is
-    | else-i-n+then-s-was w ↦
-        turned_as (turn-starts _ _ _ inv.0 inv.1 _ _ _ q (omega (arith, w.if-i-n.false)) w.hear-h.result _ w.hear-h.ensures _ _ w.line_end-long-then-s-was.ensures.value w.line_end-long-then-s-was.ensures.out_after) w.words-is w.signed-is w.end-is w.long-is w.line-is w.answer-is
-    | else-i-n+else-s-was w ↦
-        turned_as (turn-stays _ _ _ inv.0 inv.1 _ _ _ q (omega (arith, w.if-i-n.false)) w.hear-h.result _ w.hear-h.ensures w.if-s-was.false) w.words-is w.signed-is w.end-is w.long-is w.line-is w.answer-is
+      | then-i-n w ↦
+          turned_as (turn-passes _ _ _ inv.0 inv.1 _ _ w.pass-p.result _ w.pass-p.ensures.value w.pass-p.ensures.words_after _ w.note_signed.ensures _ _ w.line_end-long.ensures.value w.line_end-long.ensures.out_after) w.words-is w.signed-is w.end-is w.long-is w.line-is w.answer-is
+      | else-i-n+then-s-was w ↦
+          turned_as (turn-starts _ _ _ inv.0 inv.1 _ _ _ q (omega (arith, w.if-i-n.false)) w.hear-h.result _ w.hear-h.ensures _ _ w.line_end-long-then-s-was.ensures.value w.line_end-long-then-s-was.ensures.out_after) w.words-is w.signed-is w.end-is w.long-is w.line-is w.answer-is
+      | else-i-n+else-s-was w ↦
+          turned_as (turn-stays _ _ _ inv.0 inv.1 _ _ _ q (omega (arith, w.if-i-n.false)) w.hear-h.result _ w.hear-h.ensures w.if-s-was.false) w.words-is w.signed-is w.end-is w.long-is w.line-is w.answer-is
     ]
 
 pub loop-read-init : goal.loop-read-init

@@ -2,16 +2,12 @@
 -- the start, the record stays valid, and the rounds signed and the line's end are kept beside it. The measure is how many events
 -- may still come. Assumes nothing.
 use Prim.Native.Nat.{◌-◌}
-use mathlib.Core.Logic.{◌⊎◌, inl, inr}
-use mathlib.Core.Path.{◌≡◌, refl, ap, sym, ◌∙◌}
-use native.Mathlib.Omega.{arith}
-use lib.ListN.{length, take}
-use lib.Seq.{length-take-le}
+use mathlib.Core.Path.{◌≡◌}
+use lib.ListN.{length}
 use Rattle.clock.specs.Limits.{max_script}
-use Rattle.run.specs.Hearing.{line-stands}
-use Rattle.run.specs.Part.{Standing, standing}
-use Rattle.run.specs.PartLaws.{Onward, Beside, Turned, turned_as, goes_number, ready-onward, onward-read, onward-ends, part-from, turn-held, turn-few, turn-increments, turn-read, turn-hearer, turn-nobody, turn-plan, turn-passes, turn-starts, turn-stays, turn-shown}
-use borrow.Author.Rules.{rules}
+use Rattle.run.specs.Part.{standing}
+use Rattle.run.specs.Ready.{Beside}
+use Rattle.run.proofs.PartLaws.{Onward}
 use Rattle.run.proofs.parts.play_on.Given as goal
 
 abbrev pub invariant-loop-read : goal.invariant-loop-read

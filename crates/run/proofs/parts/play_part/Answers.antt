@@ -1,9 +1,8 @@
 -- `run::play_part` answers 10, or checks the record once, lays beside it what is kept, and plays its events. Assumes nothing.
-use mathlib.Core.Path.{refl, ap, sym, ◌∙◌}
+use mathlib.Core.Path.{refl, sym, ◌∙◌}
 use native.Mathlib.Omega.{arith}
 use Rattle.run.specs.Limits.{held-is, held-settled}
-use Rattle.run.specs.PartLaws.{onward-start, ready-new, part-bad, part-ends}
-use borrow.Author.Rules.{rules}
+use Rattle.run.proofs.PartLaws.{onward-start, ready-new, part-bad, part-ends}
 use Rattle.run.proofs.parts.play_part.Goals as goal
 
 pub returns-then-bad_line : goal.returns-then-bad_line

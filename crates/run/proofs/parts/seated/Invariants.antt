@@ -1,11 +1,9 @@
 -- `run::seated` puts each station in its place: after i turns the first i. The measure is how many are left. Assumes nothing.
 use Prim.Native.Nat.{◌-◌, ◌≤◌}
 use mathlib.Core.Path.{◌≡◌}
-use native.Mathlib.Omega.{arith}
 use Rattle.line.specs.Held.{first_of}
 use Rattle.line.specs.Fresh.{no_stations}
 use Rattle.run.specs.Play.{placed_to}
-use Rattle.run.specs.PartLaws.{seated-none, seated-next, seated-all}
 use Rattle.run.proofs.parts.seated.Given as goal
 
 abbrev pub invariant-loop-i : goal.invariant-loop-i

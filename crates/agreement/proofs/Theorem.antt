@@ -1,8 +1,8 @@
 -- Demand 3 holds of every run of an accepted setup: the course of the run keeps the laws of clocks and of messages, and each
 -- sentence is one of their theorems at the states after whole events.
-use Rattle.std.specs.Prelude.{ℕ, zero, suc, ◌+◌, ◌*◌, ◌<◌, ◌≤◌, Bool, true, false, List, ◌≡◌, refl, eqb, length, get_or}
+use Rattle.std.specs.Prelude.{ℕ, suc, ◌+◌, ◌*◌, ◌<◌, ◌≤◌, Bool, true, false, List, ◌≡◌, refl, eqb, get_or}
 use Rattle.std.proofs.Math.Path.{ap}
-use Rattle.std.proofs.Common.{sym, subst, ◌∙◌, eqb-true}
+use Rattle.std.proofs.Common.{subst, ◌∙◌, eqb-true}
 use Rattle.std.proofs.Math.Nat.{le_of_mul-le-mul_left}
 use native.Mathlib.Omega.{arith}
 use Rattle.clock.specs.Drift.{rate}
@@ -10,22 +10,22 @@ use Rattle.clock.specs.Pick.{pick}
 use Rattle.setup.specs.declared.Plan.{Plan}
 use Rattle.setup.specs.Setup.{setup_answer}
 use Rattle.station.specs.declared.Station.{Station}
-use Rattle.station.specs.Station.{waits, mark_for, move}
+use Rattle.station.specs.Station.{waits, move}
 use Rattle.event.specs.declared.Event.{Event}
 use Rattle.event.specs.declared.Event.TheVariants.{Advance, Deliver, Send}
 use Rattle.line.specs.Run.{Run, station_at, moves}
 use Rattle.line.specs.Event.{effect, event_answer, step}
-use Rattle.line.specs.Valid.{Sound, Valid}
+use Rattle.line.specs.Valid.{Sound}
 use Rattle.line.proofs.Allowed.{accepted, advances}
 use Rattle.line.proofs.Moves.{moved_at}
 use Rattle.line.specs.History.{Entry}
-use Rattle.agreement.specs.Statement.{after, no_entry, entry, Shows, moved, station_after, Agreement}
+use Rattle.agreement.specs.Statement.{after, entry, Shows, moved, station_after, Agreement}
 use Rattle.agreement.specs.ClockLaws.{follows, spread-holds, ceiling}
 use Rattle.agreement.specs.Steps.{move_of, middle}
-use Rattle.agreement.specs.Course.{Course, after_next, after-valid, after-plan, Showing, even, odd, course}
+use Rattle.agreement.specs.Course.{after_next, after-plan, Showing, even, odd, course}
 use Rattle.agreement.specs.Timing.{at, now, begun, clocks}
-use Rattle.agreement.specs.Signatures.{unforgeable}
-use Rattle.agreement.specs.Broadcasts.{broadcast}
+use Rattle.agreement.proofs.Signatures.{unforgeable}
+use Rattle.agreement.proofs.Broadcasts.{broadcast}
 
 -- in the middle of an event that starts a round the clock has moved by its increment, and nobody has started
 middle-moved : (r : Run) (e : Event) (increments : List ℕ) (p : ℕ) → Sound r.plan p → (station_at r p).round < (station_at (step r e increments) p).round

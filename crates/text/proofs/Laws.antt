@@ -16,7 +16,7 @@ use Rattle.line.specs.Held.{run_of}
 use Rattle.line.specs.HeldLaws.{place-some}
 use Rattle.setup.specs.declared.Plan.{Plan}
 use Rattle.station.specs.declared.Station.{Station}
-use Rattle.text.specs.Text.{places_from, places, last_digits, decimal, single, spaced, round_of, rounds_to, event_end, roomy, fits, fits_end}
+use Rattle.text.specs.Text.{places_from, places, last_digits, decimal, single, spaced, round_of, shown_round, rounds_to, event_end, roomy, fits, fits_end}
 
 -- as many digits as asked for
 pub length_digits : (k x : ℕ) → length (last_digits k x) ≡ k
@@ -292,10 +292,6 @@ pub written-spaced : {out : List ℕ} {at : ℕ} {bytes : List ℕ} {before : �
     → Written out at (bytes ++ spaced x) left v n
 written-spaced h x left most e f =
     written-more h (spaced x) left (omega (arith, length-spaced x, places-few x)) (e ∙ omega (arith, length-spaced x)) f
-
--- a space and a round, `-` where the mask has its station
-abbrev pub shown_round : ℕ → ℕ → ℕ → List ℕ
-shown_round faulty i round = pick (has faulty i) (32 ∷ 45 ∷ []) (spaced round)
 
 -- for station i of the line it is read off its place in the table
 pub round-shown : (l : Line) (i : ℕ) (s : Station) → i < l.plan.stations → s ≡ get_or l.stations i no_station

@@ -1,31 +1,28 @@
 -- The signed line gives the clocks what they need of messages. Unforgeability: each start holds a sound signature. Relay: a
 -- relay in flight is not overdue. Correctness: whoever waits for k has gathered every signature that was sent more than T ago,
 -- and all sound stations are more than f.
-use Prim.Native.Nat.{ℕ, zero, suc, ◌+◌, ◌*◌, ◌^◌, ◌<◌, ◌≤◌}
-use Rattle.std.specs.Prelude.{Bool, false, List, ◌⊎◌, ◌≡◌, eqb}
+use Prim.Native.Nat.{ℕ, zero, suc, ◌+◌, ◌*◌, ◌<◌, ◌≤◌}
+use Rattle.std.specs.Prelude.{◌⊎◌, ◌≡◌}
 use Rattle.std.proofs.Math.Bool.{true}
 use Rattle.std.proofs.Math.Logic.{inl, inr}
 use Rattle.std.proofs.Math.Path.{refl, ap, subst}
-use Rattle.std.proofs.Common.{sym, ◌∙◌, eqb-true}
+use Rattle.std.proofs.Common.{◌∙◌}
 use Rattle.std.proofs.Math.Decide.{dec_lt, dec_le}
 use Rattle.std.proofs.Math.Nat.{mul-le-mul_left}
 use native.Mathlib.Omega.{arith}
-use Rattle.std.proofs.lemmas.Bool.{eqb-false}
 use Rattle.clock.specs.Limits.{parts}
 use Rattle.clock.specs.Drift.{rate}
-use Rattle.mask.specs.Mask.{has, count}
+use Rattle.mask.specs.Mask.{has}
 use Rattle.setup.specs.declared.Plan.{Plan}
-use Rattle.station.specs.declared.Station.{Station}
-use Rattle.station.specs.Station.{waits, mark_for}
-use Rattle.flight.specs.declared.Message.{Message}
+use Rattle.station.specs.Station.{waits}
 use Rattle.line.specs.Valid.{Sound}
-use Rattle.agreement.specs.Clocks.{Clocks, Shown, ShownTo, First, HoldsBack, Broadcast}
+use Rattle.agreement.specs.Clocks.{Shown, ShownTo, HoldsBack, Broadcast}
 use Rattle.agreement.specs.ClockLaws.{now-climbs}
 use Rattle.agreement.specs.Among.{Some, some-all}
 use Rattle.agreement.specs.Course.{Course}
-use Rattle.agreement.specs.Timing.{at, now, rounds, rounds-on, begun, clocks}
-use Rattle.agreement.specs.Signatures.{in-time, Marks, signs-once, unforgeable}
-use Rattle.agreement.specs.Messages.{all_sound, IsRelay, relay-stays, IsReady, ready-stays}
+use Rattle.agreement.specs.Timing.{at, now, rounds, begun, clocks}
+use Rattle.agreement.proofs.Signatures.{in-time, Marks, signs-once, unforgeable}
+use Rattle.agreement.proofs.Messages.{all_sound, relay-stays, IsReady, ready-stays}
 
 module _ (plan : Plan) (𝓡 : Course plan) where
   -- the step in which a station that waits for more than j started j

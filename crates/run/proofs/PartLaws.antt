@@ -28,16 +28,16 @@ use Rattle.line.specs.Held.{first_of, station_of, run_of, bad_line}
 use Rattle.line.specs.HeldLaws.{first-length, station-of}
 use Rattle.line.specs.Fresh.{no_stations}
 use Rattle.text.specs.Text.{event_end, line_with, event_line, script_line, roomy, fits, fits_end, printed, behind}
-use Rattle.text.specs.Laws.{fits-well, fits-end, end_same}
-use Rattle.text.specs.Room.{roomy-has, line-most, end-most}
+use Rattle.text.proofs.Laws.{fits-well, fits-end, end_same}
+use Rattle.text.proofs.Room.{roomy-has, line-most, end-most}
 use Rattle.run.specs.declared.Played.{Played}
-use Rattle.run.specs.declared.parts.Part.{Part}
 use Rattle.run.specs.declared.Heard.{Heard}
 use Rattle.run.specs.Play.{placed_to, holding, comes, play_answer, stepped, stepped_words}
 use Rattle.run.specs.Play.{played as event_played, played_words}
 use Rattle.run.specs.Limits.{Held, held-is, held-settled, table-station}
 use Rattle.run.specs.Hearing.{seats, Noted, DoesBy, signed_to, signed-length, noted-all, recipient_or, line-heard}
-use Rattle.run.specs.Follows.{placed-length, first-placed, play-keeps, play-words}
+use Rattle.run.proofs.Follows.{placed-length, first-placed, play-keeps, play-words}
+use Rattle.run.specs.Ready.{Beside, Ready}
 use Rattle.run.specs.Part.{Standing, goes_on, line_of, after, stops, read_at, played_from, seated, standing, played, part_of}
 
 -- ---- seating
@@ -233,21 +233,6 @@ module _ (bytes : List ℕ) (start here : Standing) (o : Onward bytes start here
       })
 
 -- ---- what is kept beside the record
-
--- the last signed rounds of its stations, and the end of its line
-pub record Beside (n : ℕ) (l : Line) (signed end : List ℕ) (long : ℕ) : Type 0 where
-  pub stations : n ≡ l.plan.stations
-  pub noted : Noted l signed
-  pub twelve : length signed ≡ 12
-  pub room : length end ≡ 320
-  pub fits : long ≤ 320
-  pub ends : take long end ≡ event_end (run_of l [])
-
--- what a valid record is played with
-pub record Ready (l : Line) (words signed end : List ℕ) (long : ℕ) : Type 0 where
-  pub good : bad_line l words ≡ false
-  pub twelve : length l.stations ≡ 12
-  pub beside : Beside l.plan.stations l signed end long
 
 -- the end anew
 module _ (l : Line) (few : l.plan.stations ≤ 12) (end : List ℕ) (room : length end ≡ 320) where

@@ -5,7 +5,7 @@ use Rattle.std.proofs.Math.Decide.{dec_lt}
 use Rattle.std.proofs.lemmas.Bool.{lt-leb}
 use Rattle.line.specs.Run.{Run}
 use Rattle.text.specs.Text.{decimal, single, spaced, rounds_to, event_end, line_with, event_line, roomy}
-use Rattle.text.specs.Laws.{places-few, length-decimal, length-spaced, rounds-most}
+use Rattle.text.proofs.Laws.{places-few, length-decimal, length-spaced, rounds-most}
 
 pub roomy-not : (out : List ℕ) (at : ℕ) → length out < 320 → false ≡ roomy out at
 unfolding roomy

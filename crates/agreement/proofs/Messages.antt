@@ -1,13 +1,12 @@
 -- Relay and correctness of the signed line. A ready or a relay of round k is in flight until its recipient, who waits for k,
 -- gathers it: it is sent when everybody waits for k or more, and no message is in flight for longer than T.
-use Rattle.std.specs.Prelude.{ℕ, zero, suc, ◌+◌, ◌*◌, ◌^◌, ◌<◌, ◌≤◌, Bool, true, false, ◌&&◌, ◌||◌, not, ◌⊎◌, ◌≡◌, refl, ltb, eqb}
-use mathlib.Core.List.{List, [], ◌∷◌, ◌++◌}
-use Rattle.std.proofs.Common.{inl, inr, sym, subst, ◌∙◌, mul-le-mul_left, arith, eqb-true, ne_eqb, eq-eqb}
+use Rattle.std.specs.Prelude.{ℕ, zero, suc, ◌+◌, ◌^◌, ◌<◌, ◌≤◌, Bool, true, false, ◌||◌, not, ◌⊎◌, ◌≡◌, refl, eqb}
+use mathlib.Core.List.{[]}
+use Rattle.std.proofs.Common.{inl, inr, sym, ◌∙◌, arith, eqb-true, ne_eqb, eq-eqb}
 use Rattle.std.proofs.Math.Path.{ap}
-use Rattle.std.proofs.Math.Decide.{dec_lt, dec_le}
+use Rattle.std.proofs.Math.Decide.{dec_le}
 use Rattle.std.proofs.lemmas.Bool.{eqb-false}
-use Rattle.clock.specs.Limits.{parts, max_stations}
-use Rattle.clock.specs.Drift.{rate}
+use Rattle.clock.specs.Limits.{max_stations}
 use Rattle.clock.specs.Pick.{pick}
 use Rattle.mask.specs.Mask.{has, count, count_to, one, join, only}
 use Rattle.mask.proofs.Laws.{count-below, count_none, has_join, has-only, join-lt}
@@ -15,19 +14,19 @@ use Rattle.setup.specs.declared.Plan.{Plan}
 use Rattle.setup.specs.Laws.{Planned}
 use Rattle.station.specs.declared.Station.{Station}
 use Rattle.station.specs.declared.Outcome.{Outcome}
-use Rattle.station.specs.Station.{waits, mark_for, still, start, settle, gather, hear, sign, move}
+use Rattle.station.specs.Station.{waits, still, start, settle, gather, hear, sign, move}
 use Rattle.flight.specs.declared.Message.{Message}
 use Rattle.flight.specs.Message.{toward, sent_to}
-use Rattle.line.specs.Run.{Run, sound, station_at, others, ready_of, relay_of, sends}
+use Rattle.line.specs.Run.{others, ready_of, relay_of, sends}
 use Rattle.line.specs.Valid.{Sound}
 use Rattle.line.proofs.Valid.{is-sound}
 use Rattle.line.proofs.Moves.{settle-either, hear-either, hear-starts, others-are}
-use Rattle.agreement.specs.Clocks.{Clocks, Shown, ShownTo, First, HoldsBack, Broadcast}
-use Rattle.agreement.specs.Among.{Some, some_left, some_right, some-all, some-sent_to}
-use Rattle.agreement.specs.Steps.{Step, Turn, Given, idle, ticks, signs, hears}
+use Rattle.agreement.specs.Clocks.{Shown}
+use Rattle.agreement.specs.Among.{Some, some_left, some_right, some-sent_to}
+use Rattle.agreement.specs.Steps.{Turn, Given, idle, ticks, signs, hears}
 use Rattle.agreement.specs.Course.{Course}
 use Rattle.agreement.specs.Timing.{at, now, rounds, rounds-on, begun, clocks}
-use Rattle.agreement.specs.Signatures.{in-time, started-relay, Marks, signs-once, unforgeable}
+use Rattle.agreement.proofs.Signatures.{started-relay, Marks, unforgeable}
 
 -- ---- counting
 

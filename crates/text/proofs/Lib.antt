@@ -1,0 +1,3 @@
+-- Laws of the lines, and where there is room for them.
+pub mod Laws
+pub mod Room
