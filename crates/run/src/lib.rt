@@ -461,7 +461,7 @@ fn take_turns(l: Line, d: u64, increments: &[u64]) -> Turns
 fn tell_all(l: Line, words: &mut [u64], d: u64, increments: &[u64]) -> u64
     requires held { Held l words.old }
     requires going { Going l d increments.now }
-    requires stations_bound { l.count + going.sent_to l increments.now l.plan.stations ≤ max_flight }
+    requires room { l.count + going.sent_to l increments.now l.plan.stations ≤ max_flight }
     ensures value { result ≡ l.count + going.sent_to l increments.now l.plan.stations }
     ensures words_after { words.new ≡ coded words.old
         (decode l.count words.old ++ advance_sends (run_of l []) d increments.now l.plan.stations) }
@@ -535,7 +535,7 @@ fn advance(l: Line, words: &mut [u64], d: u64, increments: &[u64]) -> Played
 // An event that no station hears: 11 where it is barred, else an advance.
 fn pass(l: Line, words: &mut [u64], event: Event, increments: &[u64]) -> Played
     requires held { Held l words.old }
-    requires stations_bound { l.plan.stations ≤ rule11.hearer l.plan.stations l.plan.faulty event }
+    requires nobody { l.plan.stations ≤ rule11.hearer l.plan.stations l.plan.faulty event }
     ensures value { result ≡ play.stepped l words.old event increments.now }
     ensures words_after { words.new ≡ play.stepped_words l words.old event increments.now }
 {

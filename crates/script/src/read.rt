@@ -141,8 +141,8 @@ pub fn read_setup(bytes: &[u8], at: usize) -> SetupRead
 // The unread rest of a script behind its setup: that part of it, and no copy. Where 1 or 21 to 23 stops the reading, the
 // empty part at the script's end.
 pub fn rest(bytes: &[u8]) -> &[u8]
-    ensures result_value { result.now ≡ form.rest_of bytes.now }
-    ensures ref_ptr_value { result.ref_ptr ≡ (bytes.entry.ref_ptr.0, form.rest_at bytes.now + bytes.entry.ref_ptr.1) }
+    ensures bytes_left { result.now ≡ form.rest_of bytes.now }
+    ensures address { result.ref_ptr ≡ (bytes.entry.ref_ptr.0, form.rest_at bytes.now + bytes.entry.ref_ptr.1) }
 {
     let read = read_setup(bytes, 0);
     let next = read.next;

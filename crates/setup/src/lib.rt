@@ -48,7 +48,7 @@ fn bad_marks(plan: Plan) -> bool
     !mask::below(plan.faulty, plan.stations) | (plan.faults < mask::count(plan.faulty))
 }
 
-// gap: P > A and (P - A)·M > T.S.
+// gap: P > A and (P - A)·M > T·S.
 fn gap(plan: Plan) -> bool
     requires { InLimits plan }
     ensures { result ≡ rule.gap plan }
@@ -60,7 +60,7 @@ fn gap(plan: Plan) -> bool
     plan.bound * s < (plan.period - plan.step) * clock::PARTS
 }
 
-// step: A.M.M >= (S.D + M.T)·S.
+// step: A·M·M >= (S·D + M·T)·S.
 fn steps(plan: Plan) -> bool
     requires { InLimits plan }
     ensures { result ≡ rule.steps plan }
@@ -70,7 +70,7 @@ fn steps(plan: Plan) -> bool
     (s * plan.spread + m * plan.bound) * s <= plan.step * m * m
 }
 
-// spread: D.S.M.M >= (P.S + T.M)·(S.S - M.M) + T.S.S.M.
+// spread: D·S·M·M >= (P·S + T·M)·(S·S - M·M) + T·S·S·M.
 fn spreads(plan: Plan) -> bool
     requires { InLimits plan }
     ensures { result ≡ rule.spreads plan }

@@ -42,7 +42,7 @@ pub bounds-bytes-place : goal.bounds-bytes-place
 bounds-bytes-place c = omega arith
 
 pub overflow_cast-byte : goal.overflow_cast-byte
-overflow_cast-byte c = omega (arith, c.shared_slice_known-in-loop-left-1.given c.loop-left.place)
+overflow_cast-byte c = omega (arith, c.type_inv.bytes c.loop-left.place)
 
 pub ends-requires : goal.ends-requires
 ends-requires c = (

@@ -5,7 +5,7 @@ use Rattle.number.proofs.Laws.{number_short}
 use Rattle.number.proofs.read_number.Goals as goal
 
 pub overflow_cast-byte : goal.overflow_cast-byte
-overflow_cast-byte c = omega (arith, c.shared_slice_known-2-1.given c.args.at)
+overflow_cast-byte c = omega (arith, c.type_inv.bytes c.args.at)
 
 pub returns-then-byte-lt128 : goal.returns-then-byte-lt128
 returns-then-byte-lt128 c = sym (number_short _ _ c.if-bytes-at.false c.if-byte-lt128.true)

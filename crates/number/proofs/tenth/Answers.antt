@@ -15,7 +15,7 @@ unfolding number_from
 returns-then-bytes-at c = simp (le-leb _ _ c.if-bytes-at.true)
 
 pub overflow_cast-byte : goal.overflow_cast-byte
-overflow_cast-byte c = omega (arith, c.shared_slice_known-2-1.given c.args.at)
+overflow_cast-byte c = omega (arith, c.type_inv.bytes c.args.at)
 
 pub returns-then-byte-gt1 : goal.returns-then-byte-gt1
 unfolding number_from

@@ -54,7 +54,7 @@ returns-then-l-turns-gt-MAX_FLIGHT c =
 pub tell_all-requires : goal.tell_all-requires
 tell_all-requires c =
     let sent = ap (λ (t : Turns). t.sent) c.take_turns-turns.ensures in
-    record { held = c.requires.held; going = c.requires.going; stations_bound = omega (arith, sent) }
+    record { held = c.requires.held; going = c.requires.going; room = omega (arith, sent) }
 
 pub returns : goal.returns
 returns c =

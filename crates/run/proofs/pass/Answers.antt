@@ -19,8 +19,8 @@ returns-in-Advance c =
 
 pub returns-in-Deliver : goal.returns-in-Deliver
 returns-in-Deliver c =
-    absurd (never-deliver c.requires.held _ _ (sym c.barred.ensures ∙ c.if-barred.false) c.requires.stations_bound _ _ _ _ c.in-Deliver.is)
+    absurd (never-deliver c.requires.held _ _ (sym c.barred.ensures ∙ c.if-barred.false) c.requires.nobody _ _ _ _ c.in-Deliver.is)
 
 pub returns-in-Send : goal.returns-in-Send
 returns-in-Send c =
-    absurd (never-send c.requires.held _ _ (sym c.barred.ensures ∙ c.if-barred.false) c.requires.stations_bound _ _ _ _ c.in-Send.is)
+    absurd (never-send c.requires.held _ _ (sym c.barred.ensures ∙ c.if-barred.false) c.requires.nobody _ _ _ _ c.in-Send.is)

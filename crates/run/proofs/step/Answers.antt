@@ -7,7 +7,7 @@ use borrow.Author.Rules.{rules}
 use Rattle.run.proofs.step.Goals as goal
 
 pub pass-requires : goal.pass-requires
-pass-requires c = record { held = c.requires; stations_bound = omega (arith, c.hearer-i.ensures, c.if-i-l.true) }
+pass-requires c = record { held = c.requires; nobody = omega (arith, c.hearer-i.ensures, c.if-i-l.true) }
 
 pub note_signed-requires : goal.note_signed-requires
 note_signed-requires c = let few = (held-settled c.requires).few in (omega (arith, few), omega (arith, few))

@@ -41,7 +41,7 @@ tell-count-requires c =
     let k = c.loop-i-test.true in
     let here = table-station c.args.l c.loop-i.i k in
     let goes = goes-is _ _ _ c.requires.going _ k _ here _ c.advanced-o.ensures in
-    turn-room _ _ _ _ goes _ c.requires.going k _ here _ c.after-time.ensures _ _ c.requires.held.room c.requires.stations_bound _ c.loop-i.invariant.1 c.loop-i.invariant.2
+    turn-room _ _ _ _ goes _ c.requires.going k _ here _ c.after-time.ensures _ _ c.requires.held.room c.requires.room _ c.loop-i.invariant.1 c.loop-i.invariant.2
 
 pub overflow_add-i : goal.overflow_add-i
 overflow_add-i c = omega (arith, c.requires.going.settled.few)
@@ -59,7 +59,7 @@ loop-i-preserved c =
     let small : c.advanced-o.result.relay < 2 ^ 64 = search rules in (
       omega arith,
       c.tell-count.ensures.value ∙ omega (arith, c.loop-i.invariant.1, turn-sent a.l a.increments.now i c.advanced-o.result goes refl refl),
-      turn-laid _ _ _ _ goes _ c.requires.going k _ here _ c.after-time.ensures _ _ c.requires.held.room c.requires.stations_bound _ c.loop-i.invariant.1 c.loop-i.invariant.2 small c.tell-count.ensures.words_after,
+      turn-laid _ _ _ _ goes _ c.requires.going k _ here _ c.after-time.ensures _ _ c.requires.held.room c.requires.room _ c.loop-i.invariant.1 c.loop-i.invariant.2 small c.tell-count.ensures.words_after,
     )
 
 pub shape_of-words : goal.shape_of-words

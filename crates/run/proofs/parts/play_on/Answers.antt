@@ -35,7 +35,7 @@ pub shape_of-words-then-read-ne0 : goal.shape_of-words-then-read-ne0
 shape_of-words-then-read-ne0 c = c.loop-read.invariant.0.words
 
 pub shape_of-out-then-read-ne0 : goal.shape_of-out-then-read-ne0
-shape_of-out-then-read-ne0 c = c.out-1.given ∙ c.loop-read.invariant.0.out
+shape_of-out-then-read-ne0 c = c.script_line.auto.out ∙ c.loop-read.invariant.0.out
 
 pub shape_of-signed-then-read-ne0 : goal.shape_of-signed-then-read-ne0
 shape_of-signed-then-read-ne0 c = c.loop-read.invariant.1.twelve ∙ sym c.requires.beside.twelve
@@ -66,7 +66,7 @@ slice_bounds-pass-end c = let inv = c.loop-read.invariant in sym (length-take-le
 pub pass-p-requires : goal.pass-p-requires
 pass-p-requires c =
     let inv = c.loop-read.invariant in
-    record { held = turn-held _ _ _ inv.0 inv.1; stations_bound = turn-nobody _ _ _ inv.0 inv.1 _ _ c.hearer-i.ensures c.if-i-n.true }
+    record { held = turn-held _ _ _ inv.0 inv.1; nobody = turn-nobody _ _ _ inv.0 inv.1 _ _ c.hearer-i.ensures c.if-i-n.true }
 
 pub note_signed-requires : goal.note_signed-requires
 note_signed-requires c =

@@ -30,4 +30,4 @@ returns c =
     let b = c.args.bytes in
     let e : c.read_setup-read.result.next ≡ rest_at b.now = ap (λ (r : SetupRead). r.next)
     c.read_setup-read.ensures in
-    record { result_value = behind b.now _ ∙ ap (λ (k : ℕ). drop k b.now) e; ref_ptr_value = λ i. (b.ref_ptr.0, e i + b.ref_ptr.1) }
+    record { bytes_left = behind b.now _ ∙ ap (λ (k : ℕ). drop k b.now) e; address = λ i. (b.ref_ptr.0, e i + b.ref_ptr.1) }
