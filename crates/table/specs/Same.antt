@@ -31,8 +31,7 @@ use Rattle.line.specs.Question.{show_answer, shown, lead_answer, led, in_flight,
 use Rattle.line.specs.Fresh.{no_stations}
 use Rattle.run.specs.Play.{placed_to}
 use Rattle.run.specs.Limits.{Held, held-is}
-use Rattle.run.specs.Follows.{Kept, plays_all}
-use Rattle.run.proofs.Follows.{placed-length, placed_at, first-placed, play-answer, play-run, play-keeps, plays-all}
+use Rattle.run.proofs.Follows.{placed-length, placed_at, first-placed}
 use Rattle.seating.specs.declared.Rest.{Rest}
 use Rattle.table.specs.declared.Question.{Question}
 use Rattle.table.specs.declared.Question.TheVariants as asks

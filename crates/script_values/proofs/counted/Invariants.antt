@@ -1,6 +1,5 @@
 -- `script_values::counted` ends after 51 turns. Assumes nothing.
 use Prim.Native.Nat.{◌≤◌, ◌-◌}
-use borrow.Author.Rules.{rules}
 use Rattle.script_values.proofs.counted.Given as goal
 
 abbrev pub invariant-loop-i : goal.invariant-loop-i
