@@ -2,20 +2,24 @@
 // with the record as rows of numbers. A read or a write that fails is passed on.
 #![tactic(auto)]
 
-ghost use Rattle.std.specs.Prelude.{◌≤◌, length, IfOk};
+ghost use Rattle.std.specs.Prelude.{◌<◌, ◌≤◌, length, take, IfOk};
+ghost use Rattle.std.specs.Io.KnownBytes.{Consumes, IsAtEnd};
 
 use std::io::{Read, Result, Write};
 use writer::Written;
 
-// Reads until the buffer is full or the input ends, and answers how many bytes it put at the buffer's start.
+// Reads until the buffer is full or the input ends, and answers how many bytes it put at the buffer's start: the next ones of the
+// input, in order. Fewer than the buffer holds are all that were left.
 pub fn read_full<R: Read>(input: &mut R, buffer: &mut [u8]) -> Result<usize>
-    ensures { IfOk result (λ n. n ≤ length buffer.new) }
+    ensures bound { IfOk result (λ n. n ≤ length buffer.new) }
+    ensures bytes { IfOk result (λ n. Consumes (R.remaining input.old) (R.remaining input.new) (take n buffer.new)) }
+    ensures whole { IfOk result (λ n. n < length buffer.new → IsAtEnd (R.remaining input.new)) }
 {
     let mut done = 0;
     while done < buffer.len() {
         let got = input.read(&mut buffer[done..])?;
         if got == 0 {
-            break;
+            return Ok(done);
         }
         done += got;
     }

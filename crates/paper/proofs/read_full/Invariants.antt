@@ -1,9 +1,11 @@
--- `paper::read_full` reads until the buffer is full: no more bytes are put than it has. The measure is what is left of it.
-use Rattle.std.proofs.Common.{length, ◌-◌, ◌≤◌}
+-- `paper::read_full` reads until the buffer is full: what it has put are the input's next bytes. The measure is what is left of the
+-- buffer.
+use Rattle.std.proofs.Common.{length, take, ◌-◌, ◌≤◌}
+use Rattle.std.specs.Io.KnownBytes.{Consumes}
 use Rattle.paper.proofs.read_full.Given as goal
 
 abbrev pub invariant-loop-done : goal.invariant-loop-done
-invariant-loop-done g l = l.done ≤ length l.buffer
+invariant-loop-done g l = (l.done ≤ length l.buffer) × Consumes (g.R.Read.remaining l.initial.input) (g.R.Read.remaining l.input) (take l.done l.buffer)
 
 abbrev pub decreases-loop-done : goal.decreases-loop-done
 decreases-loop-done g l = length l.initial.buffer - l.done
