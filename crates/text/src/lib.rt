@@ -14,32 +14,11 @@ use line::Line;
 // Room for the longest line.
 pub const LONGEST: usize = 320;
 
-// How many decimal digits a number has. Up to five are found by comparing alone.
+// How many decimal digits a number has: 0 has one, as 1 has.
 fn places(x: u64) -> usize
     ensures { result ≡ text.places x }
 {
-    if x < 10 {
-        return 1;
-    }
-    if x < 100 {
-        return 2;
-    }
-    if x < 1000 {
-        return 3;
-    }
-    if x < 10000 {
-        return 4;
-    }
-    if x < 100000 {
-        return 5;
-    }
-    let mut rest = x / 100000;
-    let mut count: usize = 5;
-    while rest != 0 {
-        rest = rest / 10;
-        count += 1;
-    }
-    count
+    x.max(1).ilog10() as usize + 1
 }
 
 // One byte.
@@ -58,8 +37,8 @@ fn put_two(x: u64, out: &mut [u8], at: usize) -> usize
     ensures value { result ≡ at + 2 }
     ensures out_after { out.new ≡ laid out.old at (text.last_digits 2 x) }
 {
-    let next = put_byte(48 + (x / 10) as u8, out, at);
-    put_byte(48 + (x % 10) as u8, out, next)
+    let next = put_byte(b'0' + (x / 10) as u8, out, at);
+    put_byte(b'0' + (x % 10) as u8, out, next)
 }
 
 // A number of any length in decimal, the last digit first.
@@ -70,11 +49,9 @@ fn put_long(x: u64, out: &mut [u8], at: usize) -> usize
 {
     let count = places(x);
     let mut rest = x;
-    let mut left = count;
-    while left != 0 {
-        left -= 1;
-        out[at + left] = 48 + (rest % 10) as u8;
-        rest = rest / 10;
+    for i in (0..count).rev() {
+        out[at + i] = b'0' + (rest % 10) as u8;
+        rest /= 10;
     }
     at + count
 }
@@ -86,7 +63,7 @@ fn put_decimal(x: u64, out: &mut [u8], at: usize) -> usize
     ensures out_after { out.new ≡ laid out.old at (text.decimal x) }
 {
     if x < 10 {
-        out[at] = 48 + x as u8;
+        out[at] = b'0' + x as u8;
         return at + 1;
     }
     if x < 100 {
@@ -108,7 +85,7 @@ fn put_spaced(x: u64, out: &mut [u8], at: usize) -> usize
     ensures value { result ≡ at + (text.places x + 1) }
     ensures out_after { out.new ≡ laid out.old at (text.spaced x) }
 {
-    let next = put_byte(32, out, at);
+    let next = put_byte(b' ', out, at);
     put_decimal(x, out, next)
 }
 
@@ -119,8 +96,8 @@ fn put_round(faulty: u64, i: u64, round: u64, out: &mut [u8], at: usize) -> usiz
     ensures out_after { out.new ≡ laid out.old at (shown_round faulty i round) }
 {
     if mask::has(faulty, i) {
-        let next = put_byte(32, out, at);
-        return put_byte(45, out, next);
+        let next = put_byte(b' ', out, at);
+        return put_byte(b'-', out, next);
     }
     put_spaced(round, out, at)
 }
@@ -133,11 +110,8 @@ fn put_rounds(l: Line, out: &mut [u8], at: usize) -> usize
     ensures out_after { out.new ≡ laid out.old at (text.rounds_to (run_of l []) l.plan.stations) }
 {
     let mut next = at;
-    let mut i: u64 = 0;
-    while i < l.plan.stations {
-        let s = l.stations[i as usize];
-        next = put_round(l.plan.faulty, i, s.round, out, next);
-        i += 1;
+    for i in 0..l.plan.stations {
+        next = put_round(l.plan.faulty, i, l.stations[i as usize].round, out, next);
     }
     next
 }
@@ -148,18 +122,16 @@ fn put_word(word: &[u8], out: &mut [u8], at: usize) -> usize
     ensures value { result ≡ at + length word.now }
     ensures out_after { out.new ≡ laid out.old at word.now }
 {
-    writer::write_bytes(word, out, at);
-    at + word.len()
+    let end = at + word.len();
+    out[at..end].copy_from_slice(word);
+    end
 }
 
 // Whether the buffer has room for the longest line from a place on.
 pub fn roomy(out: &[u8], at: usize) -> bool
     ensures { result ≡ text.roomy out.now at }
 {
-    if out.len() < LONGEST {
-        return false;
-    }
-    at <= out.len() - LONGEST
+    out.len() >= LONGEST && at <= out.len() - LONGEST
 }
 
 // The end of an event's line: real time and the round of each station. Nothing for a line of more than twelve stations.
@@ -175,7 +147,7 @@ pub fn line_end(l: Line, out: &mut [u8]) -> usize
     }
     let mut next = put_spaced(l.time.0, out, 0);
     next = put_rounds(l, out, next);
-    put_byte(10, out, next)
+    put_byte(b'\n', out, next)
 }
 
 // An event's line: its number and answer, and the end that is lent. Nothing where the end is longer than any.
@@ -206,7 +178,7 @@ fn told_line(word: &[u8], number: u64, out: &mut [u8], at: usize) -> usize
     }
     let mut next = put_word(word, out, at);
     next = put_spaced(number, out, next);
-    put_byte(10, out, next)
+    put_byte(b'\n', out, next)
 }
 
 // `setup` and its answer.

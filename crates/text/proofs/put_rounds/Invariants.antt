@@ -1,14 +1,10 @@
--- `text::put_rounds` lays the rounds one behind the other: after i turns those of the first i stations. The measure is how many
--- are left. Assumes nothing.
+-- `text::put_rounds` lays the rounds one behind the other: after i turns those of the first i stations. Assumes nothing.
 use mathlib.Core.List.{[]}
-use Prim.Native.Nat.{◌*◌, ◌-◌, ◌≤◌}
+use Prim.Native.Nat.{◌*◌, ◌-◌}
 use Rattle.line.specs.Held.{run_of}
 use Rattle.text.specs.Text.{rounds_to}
 use Rattle.text.proofs.Laws.{Written}
 use Rattle.text.proofs.put_rounds.Given as goal
 
 abbrev pub invariant-loop-i : goal.invariant-loop-i
-invariant-loop-i l = (l.i ≤ l.l.plan.stations) × Written l.initial.out l.at (rounds_to (run_of l.l []) l.i) (21 * (12 - l.i)) l.out l.next
-
-abbrev pub decreases-loop-i : goal.decreases-loop-i
-decreases-loop-i l = l.l.plan.stations - l.i
+invariant-loop-i l = Written l.initial.out l.at (rounds_to (run_of l.l []) l.i) (21 * (12 - l.i)) l.out l.next

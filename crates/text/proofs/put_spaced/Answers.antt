@@ -4,8 +4,7 @@ use Rattle.text.specs.Text.{single, spaced, decimal}
 use Rattle.text.proofs.Laws.{laid_both}
 use Rattle.text.proofs.put_spaced.Goals as goal
 
-pub returns : goal.returns
+pub returns-clause-out_after : goal.returns-clause-out_after
 unfolding spaced
-returns c =
-    let a = c.args in
-    record { value = omega (arith, c.put_byte-next.ensures.value, c.put_decimal.ensures.value); out_after = laid_both _ _ (single 32) (decimal a.x) (omega arith) c.put_byte-next.ensures.out_after c.put_byte-next.ensures.value c.put_decimal.ensures.out_after }
+returns-clause-out_after c =
+    laid_both _ _ (single 32) (decimal c.args.x) (omega arith) c.put_byte-next.ensures.out_after c.put_byte-next.ensures.value c.put_decimal.ensures.out_after
