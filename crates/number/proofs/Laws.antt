@@ -1,16 +1,31 @@
--- Laws of numbers as bytes: how far the weights go, so that no sum wraps; how long the bytes of a number are; and how
--- what is laid down in two goes is laid down at once.
+-- Laws of numbers as bytes: the byte at a place, or the end; how far the weights go, so that no sum wraps; how long the
+-- bytes of a number are; and how what is laid down in two goes is laid down at once.
 use Rattle.std.specs.Prelude.{ℕ, zero, suc, ◌+◌, ◌*◌, ◌-◌, ◌/◌, ◌%◌, ◌^◌, ◌<◌, ◌≤◌, Bool, true, false, ◌&&◌, not, ◌≡◌, refl, ltb, leb, eqb, get_or}
 use mathlib.Core.List.{List, [], ◌∷◌, ◌++◌, append_assoc, append-nil}
 use Rattle.std.proofs.Math.Path.{ap, ap₂, sym}
-use Rattle.std.proofs.Common.{◌∙◌, mul-le-mul_left, mul-le-mul_right, pow-suc, mul_assoc, mul_comm, add-zero, arith, lt-ltb, le-ltb, length-take, take-append-drop, drop_at}
+use Rattle.std.proofs.Common.{◌∙◌, mul-le-mul_left, mul-le-mul_right, pow-suc, mul_assoc, mul_comm, add-zero, arith, lt-ltb, le-ltb, ltb-true, ltb-false, length-take, take-append-drop, drop_at}
 use Rattle.std.proofs.Math.Nat.{one-le-pow}
 use Rattle.std.proofs.lemmas.Bool.{lt-leb}
+use Rattle.std.proofs.lemmas.Grind.{get_or_default_zero}
 use Rattle.std.proofs.Math.ListN.{length, take, drop, length-append, length-drop}
 use Rattle.std.proofs.Math.Seq.{take_at, drop-drop}
 use Rattle.clock.specs.Pick.{pick}
 use Rattle.number.specs.declared.Number.TheVariants.{Value, Refused}
 use Rattle.number.specs.Number.{ends, number_from, read_number, groups, number_bytes, bytes_of, laid}
+
+-- ---- reading
+
+-- whether a byte stands at a place, and which
+module _ (s : List ℕ) (at : ℕ) where
+  pub at_end : false ≡ ltb at (length s) → length s ≤ at
+  at_end e = ltb-false _ _ (sym e)
+
+  module _ (e : true ≡ ltb at (length s)) where
+    pub in_bytes : at < length s
+    in_bytes = ltb-true _ _ (sym e)
+
+    pub byte_at : {byte : ℕ} → byte ≡ get_or s at byte → get_or s at 0 ≡ byte
+    byte_at {byte} h = sym (get_or_default_zero s at byte in_bytes) ∙ sym h
 
 -- reading goes on by one byte
 pub number_step : (left : ℕ) (s : List ℕ) (at weight sum : ℕ) → 0 < left

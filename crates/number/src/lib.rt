@@ -28,14 +28,13 @@ fn tenth(bytes: &[u8], at: usize, weight: u64, sum: u64) -> Number
     requires { (weight ≤ 2 ^ 63) × (sum < weight) }
     ensures { result ≡ form.number_from 0 bytes.now at weight sum }
 {
-    if bytes.len() <= at {
+    let Some(&byte) = bytes.get(at) else {
         return Number::Refused(21);
-    }
-    let byte = bytes[at] as u64;
+    };
     if byte > 1 {
         return Number::Refused(23);
     }
-    ends(byte, weight, sum, at)
+    ends(u64::from(byte), weight, sum, at)
 }
 
 // The number at a place of the bytes, byte by byte.
@@ -45,36 +44,30 @@ fn read_long(bytes: &[u8], at: usize) -> Number
     let mut place = at;
     let mut weight: u64 = 1;
     let mut sum: u64 = 0;
-    let mut left: u64 = 9;
-    while left > 0 {
-        if bytes.len() <= place {
+    for _ in 0..9u64 {
+        let Some(&byte) = bytes.get(place) else {
             return Number::Refused(21);
-        }
-        let byte = bytes[place] as u64;
+        };
+        let byte = u64::from(byte);
         if byte < 128 {
             return ends(byte, weight, sum, place);
         }
         sum += byte % 128 * weight;
         weight *= 128;
         place += 1;
-        left -= 1;
     }
     tenth(bytes, place, weight, sum)
 }
 
-// The number at a place of the bytes: read whole, or the reading stops. Most numbers of a script are one byte; the
-// slice is copied where it is handed on for another, so that these need no address of it.
+// The number at a place of the bytes: read whole, or the reading stops. Most numbers of a script are one byte.
 pub fn read_number(bytes: &[u8], at: usize) -> Number
     ensures { result ≡ form.read_number bytes.now at }
 {
-    if bytes.len() <= at {
-        let all = bytes;
-        return read_long(all, at);
-    }
-    let byte = bytes[at] as u64;
+    let Some(&byte) = bytes.get(at) else {
+        return Number::Refused(21);
+    };
     if byte < 128 {
-        return Number::Value(byte, at + 1);
+        return Number::Value(u64::from(byte), at + 1);
     }
-    let all = bytes;
-    read_long(all, at)
+    read_long(bytes, at)
 }
