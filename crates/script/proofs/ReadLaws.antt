@@ -1,12 +1,12 @@
 -- Laws of reading several numbers: what a loop that reads them one by one has so far, and that it ends with them all.
 use Prim.Native.Nat.{ℕ, zero, suc, ◌+◌, ◌*◌, ◌%◌, ◌-◌, ◌<◌, ◌≤◌}
 use mathlib.Core.List.{List, [], ◌∷◌, ◌++◌, append-nil}
-use Rattle.std.specs.Prelude.{◌≡◌, Bool, true, false, ◌&&◌, not, ltb, leb, eqb, length, get_or, set, replicate}
+use Rattle.std.specs.Prelude.{◌≡◌, Bool, true, false, ◌&&◌, not, ltb, leb, eqb, length, get_or, set, take, drop, replicate}
 use Rattle.std.proofs.Math.Path.{refl, ap}
 use Rattle.std.proofs.Common.{ap₂, sym, ◌∙◌, leb-false, length-append}
 use native.Mathlib.Omega.{arith}
 use Rattle.clock.specs.Pick.{pick}
-use Rattle.std.proofs.lemmas.List.{length-replicate, set_at}
+use Rattle.std.proofs.lemmas.List.{length-replicate, take-replicate, drop-replicate, set_at}
 use Rattle.std.proofs.Math.Seq.{append_snoc}
 use Rattle.number.specs.declared.Number.{Number}
 use Rattle.number.specs.declared.Number.TheVariants.{Value, Refused}
@@ -38,45 +38,35 @@ all-stopped : (vs : List ℕ) (number : ℕ) → and_all vs (stopped number) ≡
 all-stopped [] number = refl
 all-stopped (v ∷ vs) number = ap (and_many v) (all-stopped vs number)
 
--- one number more in the twelve places
-pub padded-more : (vs : List ℕ) (v : ℕ) → length vs < 12 → set (padded vs) (length vs) v ≡ padded (vs ++ (v ∷ []))
-unfolding padded
-padded-more vs v h =
-    let here : 12 - length vs ≡ suc (12 - suc (length vs)) = omega arith in
-    let long : length (vs ++ (v ∷ [])) ≡ suc (length vs) = length-append vs (v ∷ []) ∙ omega arith in
-    ap (λ (k : ℕ). set (vs ++ replicate k 0) (length vs) v) here
-    ∙ set_at vs 0 (replicate (12 - suc (length vs)) 0) v (length vs) refl
-    ∙ sym (append_snoc vs v (replicate (12 - suc (length vs)) 0))
-    ∙ ap (λ (k : ℕ). vs ++ (v ∷ []) ++ replicate (12 - k) 0) (sym long)
-
--- of count numbers at a place, i are read and stand in the twelve places; the others begin at `place`
+-- of count numbers at a place, i are read and stand in the first places, zeros behind them; the others begin at `place`
 pub record Taken (s : List ℕ) (at count : ℕ) (values : List ℕ) (place i : ℕ) : Type 0 where
   pub vs : List ℕ
-  pub few : i ≤ count
   pub long : length vs ≡ i
-  pub same : values ≡ padded vs
+  pub same : values ≡ vs ++ replicate (count - i) 0
   pub goes : read_many count s at ≡ and_all vs (read_many (count - i) s place)
 
-pub taken_none : (s : List ℕ) (at count : ℕ) → Taken s at count (replicate 12 0) at 0
-unfolding padded
-taken_none s at count =
+pub taken_none : (s : List ℕ) (at count : ℕ) → count ≤ 12 → Taken s at count (take count (replicate 12 0)) at 0
+taken_none s at count h =
     let e : count - 0 ≡ count = omega arith in
-    record { vs = []; few = omega arith; long = refl; same = refl; goes = rw e refl }
+    record { vs = []; long = refl; same = take-replicate count 12 0 h ∙ ap (λ k. replicate k 0) (sym e); goes = rw e refl }
 
 module _ (s : List ℕ) (at count : ℕ) (values : List ℕ) (place i : ℕ) (t : Taken s at count values place i) where
   module _ (more : i < count) where
+    left : count - i ≡ suc (count - (i + 1))
+    left = omega arith
+
     step : read_many (count - i) s place ≡ on_number (read_number s place) (λ v next. and_many v (read_many (count - (i + 1)) s next)) stopped
     unfolding read_many
-    step = let e : count - i ≡ suc (count - (i + 1)) = omega arith in rw e refl
+    step = rw left refl
 
-    pub taken_next : count ≤ 12 → (v next : ℕ) → read_number s place ≡ Value v next → Taken s at count (set values i v) next (i + 1)
-    taken_next most v next e = record {
+    pub taken_next : (v next : ℕ) → read_number s place ≡ Value v next → Taken s at count (set values i v) next (i + 1)
+    taken_next v next e = record {
       vs = t.vs ++ (v ∷ []);
-      few = omega arith;
       long = length-append t.vs (v ∷ []) ∙ omega (arith, t.long);
       same =
-          ap₂ (λ (l : List ℕ) (k : ℕ). set l k v) t.same (sym t.long)
-          ∙ padded-more t.vs v (omega (arith, t.long));
+          ap (λ (l : List ℕ). set l i v) (t.same ∙ ap (λ k. t.vs ++ replicate k 0) left)
+          ∙ set_at t.vs 0 (replicate (count - (i + 1)) 0) v i t.long
+          ∙ sym (append_snoc t.vs v (replicate (count - (i + 1)) 0));
       goes =
           t.goes ∙ ap (and_all t.vs) (step ∙ ap (λ (r : Number). on_number r (λ v next. and_many v (read_many (count - (i + 1)) s next)) stopped) e)
           ∙ sym (all_one t.vs v (read_many (count - (i + 1)) s next));
@@ -94,9 +84,18 @@ module _ (s : List ℕ) (at count : ℕ) (values : List ℕ) (place i : ℕ) (t 
       t.goes ∙ ap (λ (k : ℕ). and_all t.vs (read_many k s place)) e ∙ all-many t.vs [] place
       ∙ ap (λ (l : List ℕ). many l place) (append-nil t.vs)
 
-  pub taken-numbers : count ≤ i → record { answer = 0; values = values; next = place } ≡ as_numbers s (read_many count s at)
-  unfolding as_numbers
-  taken-numbers h = rw (taken-all h) (λ n. record { answer = 0; values = t.same n; next = place })
+  pub taken-numbers : i ≡ count
+      → record { answer = 0; values = values ++ drop count (replicate 12 0); next = place } ≡ as_numbers s (read_many count s at)
+  unfolding as_numbers padded
+  taken-numbers h =
+      let none : count - i ≡ 0 = omega arith in
+      let long : count ≡ length t.vs = omega (arith, t.long) in
+      let values-are : values ≡ t.vs = t.same ∙ ap (λ k. t.vs ++ replicate k 0) none ∙ append-nil t.vs in
+      rw (taken-all (omega arith)) (λ n. record {
+        answer = 0;
+        values = (ap₂ (λ (l r : List ℕ). l ++ r) values-are (drop-replicate count 12 0 ∙ ap (λ k. replicate (12 - k) 0) long)) n;
+        next = place;
+      })
 
 -- where the reading stopped, nothing is held
 pub stopped-numbers : (s : List ℕ) (m : Many) (number answer : ℕ) → m ≡ stopped number → answer ≡ number

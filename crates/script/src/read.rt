@@ -48,25 +48,23 @@ fn read_numbers(bytes: &[u8], at: usize, count: usize) -> Numbers
     requires { count ≤ 12 }
     ensures { result ≡ form.as_numbers bytes.now (form.read_many count bytes.now at) }
 {
-    let mut values = [0u64; 12];
+    let mut values = [0; 12];
     let mut place = at;
-    let mut i: usize = 0;
-    while i < count {
+    for value in &mut values[..count] {
         let answer = read_number(bytes, place);
         let Number::Value(v, next) = answer else {
             return Numbers {
                 answer: refusal(answer),
-                values: [0u64; 12],
+                values: [0; 12],
                 next: bytes.len(),
             };
         };
-        values[i] = v;
+        *value = v;
         place = next;
-        i += 1;
     }
     Numbers {
         answer: 0,
-        values: values,
+        values,
         next: place,
     }
 }
@@ -76,7 +74,7 @@ fn no_setup(answer: u64, end: usize) -> SetupRead
     ensures { result ≡ form.unread answer end }
 {
     SetupRead {
-        answer: answer,
+        answer,
         plan: Plan {
             stations: 0,
             faults: 0,
@@ -87,7 +85,7 @@ fn no_setup(answer: u64, end: usize) -> SetupRead
             period: 0,
             faulty: 0,
         },
-        first: [0u64; 12],
+        first: [0; 12],
         next: end,
     }
 }
@@ -96,16 +94,15 @@ fn no_setup(answer: u64, end: usize) -> SetupRead
 fn plan_of(n: u64, values: [u64; 12]) -> Plan
     ensures { result ≡ form.plan_of n values }
 {
-    let v = values;
     Plan {
         stations: n,
-        faults: v[0],
-        drift: v[1],
-        bound: v[2],
-        spread: v[3],
-        step: v[4],
-        period: v[5],
-        faulty: v[6],
+        faults: values[0],
+        drift: values[1],
+        bound: values[2],
+        spread: values[3],
+        step: values[4],
+        period: values[5],
+        faulty: values[6],
     }
 }
 
@@ -145,8 +142,7 @@ pub fn rest(bytes: &[u8]) -> &[u8]
     ensures address { result.ref_ptr ≡ (bytes.entry.ref_ptr.0, form.rest_at bytes.now + bytes.entry.ref_ptr.1) }
 {
     let read = read_setup(bytes, 0);
-    let next = read.next;
-    &bytes[next..]
+    &bytes[read.next..]
 }
 
 // An event whose reading stopped.
@@ -154,9 +150,9 @@ fn no_event(answer: u64, end: usize) -> EventRead
     ensures { result ≡ form.none_read answer end }
 {
     EventRead {
-        answer: answer,
+        answer,
         event: Event::Advance(0),
-        increments: [0u64; 12],
+        increments: [0; 12],
         next: end,
     }
 }
@@ -178,7 +174,7 @@ fn read_advance(bytes: &[u8], at: usize, stations: usize) -> EventRead
     EventRead {
         answer: 0,
         event: Event::Advance(d),
-        increments: increments,
+        increments,
         next: named.next,
     }
 }
@@ -200,7 +196,7 @@ fn read_deliver(bytes: &[u8], at: usize) -> EventRead
             round: v[2],
             kind: v[3],
         },
-        increments: [0u64; 12],
+        increments: [0; 12],
         next: named.next,
     }
 }
@@ -222,7 +218,7 @@ fn read_send(bytes: &[u8], at: usize) -> EventRead
             round: v[2],
             signers: v[3],
         },
-        increments: [0u64; 12],
+        increments: [0; 12],
         next: named.next,
     }
 }
@@ -238,14 +234,10 @@ pub fn read_event(bytes: &[u8], at: usize, stations: u64) -> EventRead
     let Number::Value(kind, behind) = answer else {
         return no_event(refusal(answer), bytes.len());
     };
-    if kind == 1 {
-        return read_advance(bytes, behind, stations as usize);
+    match kind {
+        1 => read_advance(bytes, behind, stations as usize),
+        2 => read_deliver(bytes, behind),
+        3 => read_send(bytes, behind),
+        _ => no_event(24, bytes.len()),
     }
-    if kind == 2 {
-        return read_deliver(bytes, behind);
-    }
-    if kind == 3 {
-        return read_send(bytes, behind);
-    }
-    no_event(24, bytes.len())
 }

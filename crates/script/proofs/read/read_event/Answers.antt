@@ -1,11 +1,18 @@
 -- `script::read_event` answers `read_event`: n is asked first, then the kind says which reader goes on. Assumes nothing.
-use mathlib.Core.Path.{refl, ap, sym, ◌∙◌}
-use borrow.Author.Tests.{eq-eqb, ne_eqb}
-use Rattle.clock.specs.Tests.{inside}
+use Rattle.std.proofs.Common.{arith, ℕ, List, ◌≡◌, refl, false, ap, sym, ◌∙◌, ne_eqb}
+use Rattle.number.specs.declared.Number.TheVariants.{Value}
+use Rattle.number.specs.Number.{read_number}
+use Rattle.clock.specs.Tests.{outside, inside}
 use Rattle.clock.specs.Limits.{max_stations}
 use Rattle.script.specs.Read.{refusal_of, read_event, event_from}
 use Rattle.script.proofs.ReadLaws.{unread-event}
 use Rattle.script.proofs.read.read_event.Goals as goal
+
+-- where n is one that a setup has and the kind was read
+goes_on : (n : ℕ) (s : List ℕ) (at kind next : ℕ) → outside 1 max_stations n ≡ false → read_number s at ≡ Value kind next
+    → event_from n s kind next ≡ read_event n s at
+unfolding read_event
+goes_on n s at kind next o e = rw (o, e) refl
 
 pub returns-then-outside : goal.returns-then-outside
 unfolding read_event
@@ -28,52 +35,27 @@ read_advance-requires c = (inside 1 max_stations _ (sym
     c.outside.ensures
     ∙ c.if-outside.false)).1
 
-pub returns-then-kind-eq1 : goal.returns-then-kind-eq1
-unfolding read_event event_from
-returns-then-kind-eq1 c = rw (
-  (sym c.outside.ensures
-      ∙ c.if-outside.false),
-  (sym
-      c.read_number-answer.ensures ∙ c.in-Value.is),
-  c.if-kind-eq1.true,
-) c.read_advance.ensures
+pub returns-in-1 : goal.returns-in-1
+unfolding event_from
+returns-in-1 c =
+    rw (← goes_on _ _ _ _ _ (sym c.outside.ensures ∙ c.if-outside.false) (sym c.read_number-answer.ensures ∙ c.in-Value.is), c.in-1.is)
+    c.read_advance.ensures
 
-pub returns-then-kind-eq2 : goal.returns-then-kind-eq2
-unfolding read_event event_from
-returns-then-kind-eq2 c = rw (
-  (sym c.outside.ensures
-      ∙ c.if-outside.false),
-  (sym
-      c.read_number-answer.ensures
-      ∙ c.in-Value.is),
-  ne_eqb _ _ c.if-kind-eq1.false,
-  eq-eqb _ _
-      c.if-kind-eq2.true,
-) c.read_deliver.ensures
+pub returns-in-2 : goal.returns-in-2
+unfolding event_from
+returns-in-2 c =
+    rw (← goes_on _ _ _ _ _ (sym c.outside.ensures ∙ c.if-outside.false) (sym c.read_number-answer.ensures ∙ c.in-Value.is), c.in-2.is)
+    c.read_deliver.ensures
 
-pub returns-then-kind-eq3 : goal.returns-then-kind-eq3
-unfolding read_event event_from
-returns-then-kind-eq3 c = rw (
-  (sym c.outside.ensures
-      ∙ c.if-outside.false),
-  (sym
-      c.read_number-answer.ensures
-      ∙ c.in-Value.is),
-  ne_eqb _ _ c.if-kind-eq1.false,
-  ne_eqb _ _ c.if-kind-eq2.false,
-  eq-eqb _ _ c.if-kind-eq3.true,
-) c.read_send.ensures
+pub returns-in-3 : goal.returns-in-3
+unfolding event_from
+returns-in-3 c =
+    rw (← goes_on _ _ _ _ _ (sym c.outside.ensures ∙ c.if-outside.false) (sym c.read_number-answer.ensures ∙ c.in-Value.is), c.in-3.is)
+    c.read_send.ensures
 
-pub returns : goal.returns
-unfolding read_event event_from
-returns c = unread-event _ _ 24 _ _ c.no_event-2.ensures refl (rw (
-  (sym
-      c.outside.ensures
-      ∙ c.if-outside.false),
-  (sym
-      c.read_number-answer.ensures
-      ∙ c.in-Value.is),
-  ne_eqb _ _ c.if-kind-eq1.false,
-  ne_eqb _ _ c.if-kind-eq2.false,
-  ne_eqb _ _ c.if-kind-eq3.false,
-))
+pub returns-in_default-kind : goal.returns-in_default-kind
+unfolding event_from
+returns-in_default-kind c =
+    unread-event _ _ 24 _ _ c.no_event-in_default-kind.ensures refl
+    (sym (goes_on _ _ _ _ _ (sym c.outside.ensures ∙ c.if-outside.false) (sym c.read_number-answer.ensures ∙ c.in-Value.is))
+    ∙ rw (ne_eqb c.in-Value.kind 1 (λ e. omega (arith, e)), ne_eqb c.in-Value.kind 2 (λ e. omega (arith, e)), ne_eqb c.in-Value.kind 3 (λ e. omega (arith, e))))
