@@ -1,84 +1,127 @@
--- Laws of writing: the scratch array that a number's bytes are made in, rows of numbers, a buffer with room and one without,
--- what is laid down byte by byte and row by row, and what a refusal writes.
-use Rattle.std.specs.Prelude.{ℕ, suc, ◌+◌, ◌*◌, ◌-◌, ◌/◌, ◌%◌, ◌^◌, ◌<◌, ◌≤◌, List, [], ◌∷◌, ◌++◌, ◌≡◌, refl, length, get_or, take, drop, set, replicate}
-use Rattle.std.proofs.Common.{append_assoc, append-nil, ap, sym, ◌∙◌, pow-suc, div-lt_iff_lt-mul, add-one, arith, le-leb, eq-eqb, ne_eqb, length-set, length-append, take-append-drop, take-suc-set, take-suc, length-take-le}
+-- Laws of writing: how many bytes a number takes, what lies in the buffer while they are written, rows of numbers, a buffer
+-- with room and one without, what is laid down in one part and row by row, and what a refusal writes.
+use Rattle.std.specs.Prelude.{ℕ, zero, suc, ◌+◌, ◌*◌, ◌-◌, ◌/◌, ◌%◌, ◌^◌, ◌<◌, ◌≤◌, List, [], ◌∷◌, ◌++◌, ◌≡◌, refl, length, get_or, take, drop, set, max}
+use Rattle.std.proofs.Common.{append_assoc, append-nil, ap, ap₂, sym, ◌∙◌, pow-suc, div-lt_iff_lt-mul, add-one, arith, le-leb, eq-eqb, ne_eqb, length-append, take-append-drop, take-suc, length-take-le, drop-cons}
 use Rattle.std.proofs.Math.Decide.{dec_lt}
+use Rattle.std.proofs.Math.Nat.{one-le-pow}
+use Rattle.std.proofs.Math.Pow.{pow_mono}
+use Rattle.std.proofs.lemmas.Nat.{pow-add}
 use Rattle.std.proofs.lemmas.Bool.{lt-leb}
-use Rattle.std.proofs.Math.Seq.{paste-suc}
+use Rattle.std.proofs.Math.Seq.{append_snoc, drop-drop}
+use Rattle.std.proofs.lemmas.List.{set_at}
 use Rattle.number.specs.Number.{groups, number_bytes, bytes_of, laid}
-use Rattle.number.proofs.Laws.{groups-last, groups-on, bytes-append, laid_on}
+use Rattle.number.proofs.Laws.{groups-last, groups-on, groups-length, bytes-append, laid_none, laid_on, length-laid}
 use Rattle.writer.specs.declared.Written.{Written}
 use Rattle.writer.specs.declared.Written.TheVariants as written
 use Rattle.writer.specs.Write.{room, wrote, buffer, writes, leaves}
 
 -- ---- a number
 
--- the first count bytes of a scratch array are these
-pub record Grouped (bytes scratch : List ℕ) (count : ℕ) : Type 0 where
-  pub scratch-length : length scratch ≡ 10
-  pub few : count ≤ 10
-  pub same : take count scratch ≡ bytes
-
-pub grouped-count : {bytes scratch : List ℕ} {count : ℕ} → Grouped bytes scratch count → count ≡ length bytes
-grouped-count {count = count} g = sym (length-take-le count _ (omega arith)) ∙ ap length g.same
-
 -- the bytes of a number go on with its next group
 pub groups-more : (left v : ℕ) → 0 < left → 128 ≤ v → groups left v ≡ (128 + v % 128) ∷ groups (left - 1) (v / 128)
 groups-more left v h b = let e : left ≡ suc (left - 1) = omega arith in ap (λ (k : ℕ). groups k v) e ∙ groups-on (left - 1) v b
 
--- while the groups of v are made: so many bytes of them stand in the scratch array, and the rest is to come
-pub record Grouping (v : ℕ) (scratch : List ℕ) (count rest : ℕ) : Type 0 where
-  pub scratch-length : length scratch ≡ 10
-  pub few : count ≤ 9
-  pub bound : rest < 2 * 128 ^ (9 - count)
-  pub same : take count scratch ++ groups (9 - count) rest ≡ number_bytes v
+-- with the highest bit of a number, how many groups of seven bits it has, so many of them before a tenth
+pub groups-size : (left bit v : ℕ) → bit / 7 ≤ left → 2 ^ bit ≤ max v 1 → max v 1 < 2 * 2 ^ bit → length (groups left v) ≡ bit / 7 + 1
+groups-size zero bit v few low high =
+    let p : 2 ^ bit ≤ 2 ^ 6 = pow_mono {i = bit} {j = 6} (omega arith) in
+    ap length (groups-last 0 v (omega arith)) ∙ omega arith
+groups-size (suc left) bit v few low high = elim (dec_lt bit 7) [
+  | yes h ↦
+      let p : 2 ^ bit ≤ 2 ^ 6 = pow_mono {i = bit} {j = 6} (omega arith) in
+      ap length (groups-last (suc left) v (omega arith)) ∙ omega arith
+  | no h ↦
+      let e : 2 ^ bit ≡ 2 ^ (bit - 7) * 2 ^ 7 = ap (λ k. 2 ^ k) (omega arith) ∙ pow-add 2 (bit - 7) 7 in
+      let p : 1 ≤ 2 ^ (bit - 7) = one-le-pow (bit - 7) 2 (omega arith) in
+      ap length (groups-on left v (omega arith))
+      ∙ ap suc (groups-size left (bit - 7) (v / 128) (omega arith) (omega arith) (omega arith)) ∙ omega arith
+]
 
-pub grouping-start : (v : ℕ) → v < 2 ^ 64 → Grouping v (replicate 10 0) 0 v
+-- while the groups of v are written from a place on: so many bytes of them lie there, and the rest is to come
+pub record Putting (v : ℕ) (out₀ : List ℕ) (at : ℕ) (out : List ℕ) (place rest : ℕ) : Type 0 where
+  pub made : List ℕ
+  pub few : length made ≤ 9
+  pub here : place ≡ at + length made
+  pub bound : rest < 2 * 128 ^ (9 - length made)
+  pub same : made ++ groups (9 - length made) rest ≡ number_bytes v
+  pub lies : out ≡ laid out₀ at made
+
+pub putting-start : (v : ℕ) (out : List ℕ) (at : ℕ) → v < 2 ^ 64 → Putting v out at out at v
 unfolding number_bytes
-grouping-start v h = record { scratch-length = refl; few = omega arith; bound = h; same = refl }
+putting-start v out at h =
+    record { made = []; few = omega arith; here = omega arith; bound = h; same = refl; lies = sym (laid_none out at) }
 
-module _ (v : ℕ) (scratch : List ℕ) (count rest : ℕ) (g : Grouping v scratch count rest) where
-  -- one more group: there is room for it, and then one left for the last
-  module _ (more : 128 ≤ rest) where
-    pub grouping-room : count < 9
-    grouping-room = elim (dec_lt count 9) [
-      | yes h ↦ h
-      | no h ↦ let e : 9 - count ≡ 0 = omega arith in
-          let b : rest < 2 * 128 ^ 0 = rw e at g.bound in
-          absurd (omega arith)
-    ]
+-- one byte laid down
+laid-one : (out : List ℕ) (at b : ℕ) → at < length out → set out at b ≡ laid out at (b ∷ [])
+unfolding laid
+laid-one out at b h =
+    ap (λ (l : List ℕ). set l at b) (sym (take-append-drop at out) ∙ ap (λ (l : List ℕ). take at out ++ l) (rw add-one (drop-cons out at 0 h)))
+    ∙ set_at (take at out) (get_or out at 0) (drop (at + 1) out) b at (length-take-le at out (omega arith))
+    ∙ sym (append_snoc (take at out) b (drop (at + 1) out))
 
-    left : 9 - count ≡ suc (9 - (count + 1))
-    left = omega (arith, grouping-room)
+module _ (v : ℕ) (out₀ : List ℕ) (at : ℕ) (out : List ℕ) (place rest : ℕ) (g : Putting v out₀ at out place rest)
+    (fits : at + length (number_bytes v) ≤ length out₀)
+  where
+    whole : length g.made + length (groups (9 - length g.made) rest) ≡ length (number_bytes v)
+    whole = sym (length-append g.made (groups (9 - length g.made) rest)) ∙ ap length g.same
 
-    pub grouping-next : Grouping v (set scratch count (128 + rest % 128)) (count + 1) (rest / 128)
-    grouping-next =
-        let room = grouping-room in
-        let power : 128 ^ (9 - count) ≡ 128 ^ (9 - (count + 1)) * 128 = ap (λ (k : ℕ). 128 ^ k) left ∙ pow-suc 128 (9 - (count + 1)) in
-        record {
-          scratch-length = length-set scratch count (128 + rest % 128) ∙ g.scratch-length;
-          few = omega arith;
-          bound = (div-lt_iff_lt-mul {k = 128} {x = rest} {y = 2 * 128 ^ (9 - (count + 1))} (omega arith)).1 (omega (arith, g.bound));
-          same =
-              rw add-one (ap (λ (l : List ℕ). l ++ groups (9 - suc count) (rest / 128)) (take-suc-set scratch count (128 + rest % 128) (omega (arith, g.scratch-length))))
-              ∙ append_assoc (take count scratch) ((128 + rest % 128) ∷ []) (groups (9 - (count + 1)) (rest / 128))
-              ∙ ap (λ (l : List ℕ). take count scratch ++ l) (sym (next-groups)) ∙ g.same;
-        }
-      where
-        next-groups : groups (9 - count) rest ≡ (128 + rest % 128) ∷ groups (9 - (count + 1)) (rest / 128)
-        next-groups = groups-more (9 - count) rest (omega (arith, left)) more ∙ ap (λ (k : ℕ). (128 + rest % 128) ∷ groups k (rest / 128)) (omega (arith, left))
+    same-length : length out ≡ length out₀
+    same-length = ap length g.lies ∙ length-laid out₀ at g.made (omega (arith, whole))
 
-  -- the last group
-  pub grouping-end : rest < 128 → Grouped (number_bytes v) (set scratch count rest) (count + 1)
-  grouping-end h =
-      record {
-        scratch-length = length-set scratch count rest ∙ g.scratch-length;
-        few = omega (arith, g.few);
-        same =
-            rw add-one (take-suc-set scratch count rest (omega (arith, g.few, g.scratch-length)))
-            ∙ ap (λ (l : List ℕ). take count scratch ++ l) (sym (groups-last (9 - count) rest h))
-            ∙ g.same;
-      }
+    pub putting-fits : place < length out
+    putting-fits = omega (arith, g.here, whole, same-length, (groups-length (9 - length g.made) rest).0)
+
+    -- one byte more lies behind those that lie there
+    lies-on : (b : ℕ) → set out place b ≡ laid out₀ at (g.made ++ (b ∷ []))
+    lies-on b =
+        laid-one out place b putting-fits
+        ∙ ap₂ (λ (l : List ℕ) (k : ℕ). laid l k (b ∷ [])) g.lies g.here
+        ∙ laid_on out₀ at g.made (omega (arith, whole)) (b ∷ [])
+
+    -- one more group: there is room for it, and then one left for the last
+    module _ (more : 128 ≤ rest) where
+      below_nine : length g.made < 9
+      below_nine = elim (dec_lt (length g.made) 9) [
+        | yes h ↦ h
+        | no h ↦ let e : 9 - length g.made ≡ 0 = omega (arith, g.few) in
+            let b : rest < 2 * 128 ^ 0 = rw e at g.bound in
+            absurd (omega arith)
+      ]
+
+      left : 9 - length g.made ≡ suc (9 - (length g.made + 1))
+      left = omega (arith, below_nine)
+
+      pub putting-next : Putting v out₀ at (set out place (128 + rest % 128)) (place + 1) (rest / 128)
+      putting-next =
+          let byte : ℕ = 128 + rest % 128 in
+          let power : 128 ^ (9 - length g.made) ≡ 128 ^ (9 - (length g.made + 1)) * 128 = ap (λ (k : ℕ). 128 ^ k) left ∙ pow-suc 128 (9 - (length g.made + 1)) in
+          let one : length (g.made ++ (byte ∷ [])) ≡ length g.made + 1 = length-append g.made (byte ∷ []) in
+          let small : rest / 128 < 2 * 128 ^ (9 - (length g.made + 1)) =
+          (div-lt_iff_lt-mul {k = 128} {x = rest} {y = 2 * 128 ^ (9 - (length g.made + 1))} (omega arith)).1 (omega (arith, g.bound))
+          in
+          record {
+            made = g.made ++ (byte ∷ []);
+            few = omega (arith, one, below_nine);
+            here = omega (arith, one, g.here);
+            bound = rw one small;
+            same =
+                rw one (append_assoc g.made (byte ∷ []) (groups (9 - (length g.made + 1)) (rest / 128)))
+                ∙ ap (λ (l : List ℕ). g.made ++ l) (sym next-groups) ∙ g.same;
+            lies = lies-on byte;
+          }
+        where
+          next-groups : groups (9 - length g.made) rest ≡ (128 + rest % 128) ∷ groups (9 - (length g.made + 1)) (rest / 128)
+          next-groups =
+              groups-more (9 - length g.made) rest (omega (arith, left)) more
+              ∙ ap (λ (k : ℕ). (128 + rest % 128) ∷ groups k (rest / 128)) (omega (arith, left))
+
+    -- the last group
+    pub putting-end : rest < 128 → (place + 1 ≡ at + length (number_bytes v)) × (set out place rest ≡ laid out₀ at (number_bytes v))
+    putting-end h =
+        let all : g.made ++ (rest ∷ []) ≡ number_bytes v =
+        ap (λ (l : List ℕ). g.made ++ l) (sym (groups-last (9 - length g.made) rest h)) ∙ g.same
+        in
+        (omega (arith, g.here, ap length all, length-append g.made (rest ∷ [])), lies-on rest ∙ ap (laid out₀ at) all)
 
 -- ---- rows of numbers
 
@@ -113,14 +156,13 @@ pub long : (out : List ℕ) (at : ℕ) (bytes : List ℕ) → at + length bytes 
 unfolding wrote buffer room
 long out at bytes h = (simp (le-leb _ _ h), simp (le-leb _ _ h))
 
--- one byte more of what is laid down byte by byte
-pub laid-byte : (out : List ℕ) (at : ℕ) (bytes : List ℕ) (i : ℕ) → at + i < length out → i < length bytes
-    → set (laid out at (take i bytes)) (at + i) (get_or bytes i 0) ≡ laid out at (take (i + 1) bytes)
+-- bytes copied over a part of the buffer
+pub laid-part : (out : List ℕ) (at : ℕ) (bytes : List ℕ)
+    → take at out ++ (bytes ++ drop (length bytes) (drop at out)) ≡ laid out at bytes
 unfolding laid
-laid-byte out at bytes i h b =
-    let here : length (take i bytes) ≡ i = length-take-le i bytes (omega arith) in
-    let next : length (take (suc i) bytes) ≡ suc i = length-take-le (suc i) bytes b in
-    rw (add-one, here, next) (paste-suc out at bytes i 0 h b)
+laid-part out at bytes =
+    sym (append_assoc (take at out) bytes (drop (length bytes) (drop at out)))
+    ∙ ap (λ (l : List ℕ). take at out ++ bytes ++ l) (drop-drop (length bytes) at out)
 
 -- two rows laid down one behind the other
 pub rows-laid : (out : List ℕ) (at : ℕ) (vs ws : List ℕ) → at + length (bytes_of vs) ≤ length out

@@ -2,12 +2,11 @@
 // Refused, nothing is written.
 #![tactic(auto)]
 
-ghost use Rattle.std.specs.Prelude.{◌≡◌, ◌≤◌, ◌+◌, ◌++◌, length, take};
+ghost use Rattle.std.specs.Prelude.{◌≡◌, ◌≤◌, ◌+◌, ◌++◌, length};
 ghost use Rattle.setup.specs.Setup.{setup_answer};
 ghost use Rattle.number.specs.Number as number;
 ghost use Rattle.script.specs.Write as script;
 ghost use Rattle.writer.specs.Write as writer;
-ghost use Rattle.writer.specs.Laws.{Grouped};
 
 use event::Event;
 use setup::Plan;
@@ -20,43 +19,6 @@ pub enum Written {
 }
 
 // ---- bytes and numbers
-
-// The bytes of a number, in a scratch array: the first `count` of them.
-#[derive(Clone, Copy)]
-struct Scratch {
-    bytes: [u8; 10],
-    count: usize,
-}
-
-fn groups(v: u64) -> Scratch
-    ensures { Grouped (number.number_bytes v) result.bytes result.count }
-{
-    let mut bytes = [0u8; 10];
-    let mut count: usize = 0;
-    let mut rest = v;
-    while rest >= 128 {
-        bytes[count] = (128 + rest % 128) as u8;
-        rest = rest / 128;
-        count += 1;
-    }
-    bytes[count] = rest as u8;
-    Scratch {
-        bytes: bytes,
-        count: count + 1,
-    }
-}
-
-// Copies the first `count` bytes to a place of the buffer.
-fn copy(bytes: &[u8], count: usize, out: &mut [u8], at: usize)
-    requires { (count ≤ length bytes.now) × (at + count ≤ length out.old) }
-    ensures { out.new ≡ number.laid out.old at (take count bytes.now) }
-{
-    let mut i = 0;
-    while i < count {
-        out[at + i] = bytes[i];
-        i += 1;
-    }
-}
 
 // Writes bytes as they are at a place of the buffer: how many, or 25 where it is too short and nothing is written.
 pub fn write_bytes(bytes: &[u8], out: &mut [u8], at: usize) -> Written
@@ -71,33 +33,42 @@ pub fn write_bytes(bytes: &[u8], out: &mut [u8], at: usize) -> Written
     if space - at < count {
         return Written::Refused(25);
     }
-    copy(bytes, count, out, at);
+    out[at..at + count].copy_from_slice(bytes);
     Written::Bytes(count)
 }
 
-// Writes a number at a place that has room for it, and answers the place behind it.
+// How many bytes a number takes: one for each seven bits, and one for 0.
+fn size(v: u64) -> usize
+    ensures { result ≡ length (number.number_bytes v) }
+{
+    v.max(1).ilog2() as usize / 7 + 1
+}
+
+// Writes a number at a place that has room for it, and answers the place behind it. The loop stays a `while`: the rest says
+// when the last group comes, and a `for` would have to count them first.
 fn put_number(v: u64, out: &mut [u8], at: usize) -> usize
     requires { at + length (number.number_bytes v) ≤ length out.old }
     ensures value { result ≡ at + length (number.number_bytes v) }
     ensures out_after { out.new ≡ number.laid out.old at (number.number_bytes v) }
 {
-    let g = groups(v);
-    let bytes = g.bytes;
-    let count = g.count;
-    copy(&bytes, count, out, at);
-    at + count
+    let mut place = at;
+    let mut rest = v;
+    while rest >= 128 {
+        out[place] = (128 + rest % 128) as u8;
+        rest /= 128;
+        place += 1;
+    }
+    out[place] = rest as u8;
+    place + 1
 }
 
 // How many bytes the numbers take.
 fn width(numbers: &[u64]) -> usize
     ensures { result ≡ length (number.bytes_of numbers.now) }
 {
-    let mut sum: usize = 0;
-    let mut i = 0;
-    while i < numbers.len() {
-        let g = groups(numbers[i]);
-        sum += g.count;
-        i += 1;
+    let mut sum = 0;
+    for &v in numbers {
+        sum += size(v);
     }
     sum
 }
@@ -109,10 +80,8 @@ fn put_numbers(numbers: &[u64], out: &mut [u8], at: usize) -> usize
     ensures out_after { out.new ≡ number.laid out.old at (number.bytes_of numbers.now) }
 {
     let mut place = at;
-    let mut i = 0;
-    while i < numbers.len() {
-        place = put_number(numbers[i], out, place);
-        i += 1;
+    for &v in numbers {
+        place = put_number(v, out, place);
     }
     place
 }
@@ -149,8 +118,7 @@ pub fn write_number(v: u64, out: &mut [u8], at: usize) -> Written
     if space < at {
         return Written::Refused(25);
     }
-    let g = groups(v);
-    let count = g.count;
+    let count = size(v);
     if space - at < count {
         return Written::Refused(25);
     }

@@ -1,21 +1,22 @@
--- `writer::put_number` lays the bytes of a number down: the scratch array holds them, and `copy` copies them. Assumes
--- nothing.
-use mathlib.Core.Path.{◌∙◌, ap}
-use Rattle.number.specs.Number.{laid}
-use Rattle.writer.specs.Laws.{grouped-count}
-use native.Mathlib.Omega.{arith}
+-- `writer::put_number` writes the bytes of a number: what lies there, with the groups of the rest behind it, is the number's
+-- bytes. The rest falls, and is its own measure. Assumes nothing.
+use Rattle.writer.specs.Laws.{putting-start, putting-fits, putting-next, putting-end}
 use Rattle.writer.proofs.put_number.Goals as goal
 
-pub copy-requires : goal.copy-requires
-copy-requires c = omega (
-  arith,
-  grouped-count c.groups-g.ensures,
-  c.groups-g.ensures,
-)
+pub loop-rest-init : goal.loop-rest-init
+loop-rest-init c = putting-start _ _ _ c.ranges.v.fits
 
-pub returns : goal.returns
-returns c = record {
-  value = omega (arith, grouped-count c.groups-g.ensures);
-  out_after = c.copy.ensures ∙ ap (laid _ _)
-      c.groups-g.ensures.same;
-}
+pub bounds-out-place : goal.bounds-out-place
+bounds-out-place c = putting-fits _ _ _ _ _ _ c.loop-rest.invariant c.requires
+
+pub loop-rest-preserved : goal.loop-rest-preserved
+loop-rest-preserved c = putting-next _ _ _ _ _ _ c.loop-rest.invariant c.requires c.loop-rest-test.true
+
+pub bounds-out-place-2 : goal.bounds-out-place-2
+bounds-out-place-2 c = putting-fits _ _ _ _ _ _ c.loop-rest.invariant c.requires
+
+pub returns-clause-value : goal.returns-clause-value
+returns-clause-value c = (putting-end _ _ _ _ _ _ c.loop-rest.invariant c.requires c.loop-rest-test.false).0
+
+pub returns-clause-out_after : goal.returns-clause-out_after
+returns-clause-out_after c = (putting-end _ _ _ _ _ _ c.loop-rest.invariant c.requires c.loop-rest-test.false).1

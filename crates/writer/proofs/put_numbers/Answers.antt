@@ -1,5 +1,4 @@
--- `writer::put_numbers` lays the bytes of a row down: after i turns those of the first i numbers. The measure is what is left
--- of the row. Assumes nothing.
+-- `writer::put_numbers` lays the bytes of a row down: after i turns those of the first i numbers. Assumes nothing.
 use Prim.Native.Nat.{ℕ, ◌+◌, ◌≤◌, ◌<◌}
 use mathlib.Core.List.{List}
 use mathlib.Core.Path.{◌≡◌, refl, sym, ◌∙◌, ap, ap₂}
@@ -47,37 +46,17 @@ done {vs} {i = i} p e =
     let all : take i vs ≡ vs = rw e (take-length vs) in
     (rw all at p.next, rw all at p.same)
 
-pub loop-i-init : goal.loop-i-init
-loop-i-init c = (omega arith, start _ _ _)
-
-pub offset_bounds-numbers-i : goal.offset_bounds-numbers-i
-offset_bounds-numbers-i c = omega arith
-
-pub bounds-numbers-i : goal.bounds-numbers-i
-bounds-numbers-i c = omega arith
+pub loop-v-init : goal.loop-v-init
+loop-v-init c = start _ _ _
 
 pub put_number-place-requires : goal.put_number-place-requires
-put_number-place-requires c = fits _ _ _ _ _ _ c.loop-i.invariant.1
-    c.loop-i-test.true c.requires
+put_number-place-requires c = fits _ _ _ _ _ _ c.loop-v.invariant (omega arith) c.requires
 
-pub overflow_add-i : goal.overflow_add-i
-overflow_add-i c = omega arith
-
-pub loop-i-smaller : goal.loop-i-smaller
-loop-i-smaller c = omega arith
-
-pub loop-i-preserved : goal.loop-i-preserved
-loop-i-preserved c = (
-  omega arith,
-  turn _ _ _ _ _ _ c.loop-i.invariant.1
-      c.loop-i-test.true
-      c.requires
-      c.put_number-place.ensures.value c.put_number-place.ensures.out_after,
-)
-
-pub shape_of-out : goal.shape_of-out
-shape_of-out c = c.loop-i.invariant.1.long
+pub loop-v-preserved : goal.loop-v-preserved
+loop-v-preserved c =
+    turn _ _ _ _ _ _ c.loop-v.invariant (omega arith) c.requires c.put_number-place.ensures.value c.put_number-place.ensures.out_after
 
 pub returns : goal.returns
 returns c =
-    record { value = (done c.loop-i.invariant.1 (omega arith)).0; out_after = (done c.loop-i.invariant.1 (omega arith)).1 }
+    let d = done c.loop-v.invariant (omega arith) in
+    record { value = d.0; out_after = d.1 }

@@ -1,6 +1,5 @@
--- `writer::put_numbers` lays the bytes of a row down: after i turns those of the first i numbers. The measure is what is left
--- of the row. Assumes nothing.
-use Prim.Native.Nat.{ℕ, ◌+◌, ◌-◌, ◌≤◌}
+-- `writer::put_numbers` lays the bytes of a row down: after i turns those of the first i numbers. Assumes nothing.
+use Prim.Native.Nat.{ℕ, ◌+◌}
 use mathlib.Core.List.{List}
 use mathlib.Core.Path.{◌≡◌}
 use lib.ListN.{length, take}
@@ -12,8 +11,5 @@ pub record Put (vs out₀ : List ℕ) (at i : ℕ) (out : List ℕ) (place : ℕ
   pub long : length out ≡ length out₀
   pub same : out ≡ laid out₀ at (bytes_of (take i vs))
 
-abbrev pub invariant-loop-i : goal.invariant-loop-i
-invariant-loop-i l = (l.i ≤ length l.numbers) × Put l.numbers l.initial.out l.at l.i l.out l.place
-
-abbrev pub decreases-loop-i : goal.decreases-loop-i
-decreases-loop-i l = length l.numbers - l.i
+abbrev pub invariant-loop-v : goal.invariant-loop-v
+invariant-loop-v l = Put l.numbers l.initial.out l.at l.v-index l.out l.place

@@ -1,9 +1,6 @@
 -- `writer::write_bytes` lays the bytes where there is room for them, and else answers 25 and writes nothing. Assumes nothing.
-use mathlib.Core.Path.{ap, ◌∙◌}
-use native.Mathlib.Omega.{arith}
-use lib.Seq.{take-length}
-use Rattle.number.specs.Number.{laid}
-use Rattle.writer.specs.Laws.{short, long}
+use Rattle.std.proofs.Common.{◌+◌, ◌-◌, ◌≡◌, ◌∙◌, length, arith}
+use Rattle.writer.specs.Laws.{laid-part, short, long}
 use Rattle.writer.proofs.write_bytes.Goals as goal
 
 pub returns-then-space-at : goal.returns-then-space-at
@@ -18,4 +15,5 @@ pub returns : goal.returns
 returns c =
     let a = c.args in
     let l = long a.out.now a.at a.bytes.now (omega arith) in
-    record { value = l.0; out_after = c.copy.ensures ∙ ap (laid a.out.now a.at) (take-length _) ∙ l.1 }
+    let count : a.at + length a.bytes.now - a.at ≡ length a.bytes.now = omega arith in
+    record { value = l.0; out_after = rw (count, c.copy_from_slice.ensures.after) (laid-part _ _ _ ∙ l.1) }
