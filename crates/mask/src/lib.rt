@@ -18,7 +18,7 @@ pub fn has(mask: u64, i: u64) -> bool
 pub fn count(mask: u64) -> u64
     ensures { result ≡ set.count mask }
 {
-    u64::count_ones(mask) as u64
+    u64::from(mask.count_ones())
 }
 
 // Whether every station of the set is below n.
@@ -53,7 +53,7 @@ pub fn all(n: u64) -> u64
     ensures { result ≡ set.all n }
 {
     if n >= 64 {
-        return 18_446_744_073_709_551_615;
+        return u64::MAX;
     }
     (1 << n) - 1
 }
@@ -62,5 +62,5 @@ pub fn all(n: u64) -> u64
 pub fn minus(a: u64, b: u64) -> u64
     ensures { result ≡ set.minus a b }
 {
-    a ^ (a & b)
+    a & !b
 }
