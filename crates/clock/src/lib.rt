@@ -39,14 +39,14 @@ pub const MAX_SCRIPT: u64 = 65_536;
 pub const PARTS: u64 = 10_000;
 
 // The largest number that a word holds.
-pub const LAST: u64 = 18_446_744_073_709_551_615;
+pub const LAST: u64 = u64::MAX;
 
 // A moment of real time: microseconds since the run began.
-#[derive(Clone, Copy)]
+#[derive(Clone, Copy, Default, PartialEq)]
 pub struct Moment(pub u64);
 
 // What a station's clock shows.
-#[derive(Clone, Copy)]
+#[derive(Clone, Copy, Default, PartialEq)]
 pub struct Reading(pub u64);
 
 impl Moment {
@@ -54,11 +54,7 @@ impl Moment {
     pub fn after(self, span: u64) -> Self
         ensures { result.0 ≡ later self.0 span }
     {
-        if self.0 <= LAST - span {
-            Moment(self.0 + span)
-        } else {
-            Moment(LAST)
-        }
+        Moment(self.0.saturating_add(span))
     }
 }
 
@@ -67,21 +63,14 @@ impl Reading {
     pub fn on(self, by: u64) -> Self
         ensures { result.0 ≡ later self.0 by }
     {
-        if self.0 <= LAST - by {
-            Reading(self.0 + by)
-        } else {
-            Reading(LAST)
-        }
+        Reading(self.0.saturating_add(by))
     }
 
     // The mark of a round: round times period. Past the limits it is where no clock comes.
     pub fn mark(round: u64, period: u64) -> Self
         ensures { result.0 ≡ mark round period }
     {
-        if round > MAX_ROUND + 1 {
-            return Reading(LAST);
-        }
-        if period > MAX_PERIOD {
+        if round > MAX_ROUND + 1 || period > MAX_PERIOD {
             return Reading(LAST);
         }
         Reading(round * period)
@@ -133,8 +122,5 @@ pub fn in_drift(drift: u64, span: u64, increment: u64) -> bool
 pub fn magnitude(x: i64) -> u64
     ensures { result ≡ nat_abs x }
 {
-    if x < 0 {
-        return (-1 - x) as u64 + 1;
-    }
-    x as u64
+    x.unsigned_abs()
 }
