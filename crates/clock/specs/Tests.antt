@@ -1,6 +1,10 @@
 -- Tests, and what they say where they hold or fail.
-use Rattle.std.specs.Prelude.{ℕ, zero, suc, ◌+◌, ◌≤◌, ◌<◌, Bool, true, false, ◌&&◌, ◌||◌, List, ◌≡◌, refl, ltb, get_or}
-use Rattle.std.proofs.Common.{ap₂, add-one, arith, ltb-false, le-ltb}
+use Rattle.std.specs.Prelude.{ℕ, zero, suc, ◌+◌, ◌≤◌, ◌<◌, Bool, true, false, ◌&&◌, ◌||◌, List, length, ◌≡◌, refl, ltb, get_or, take}
+use Rattle.std.specs.List.{list_any, enumerate_from}
+use Rattle.std.proofs.Common.{ap, ap₂, sym, ◌∙◌, add-one, zero-add, arith, ltb-false, le-ltb}
+use Rattle.std.proofs.lemmas.List.Folds.{list_any_more}
+use Rattle.std.proofs.lemmas.List.FromFn.{length-enumerate_from, get_or-enumerate_from}
+use Rattle.std.proofs.Math.Seq.{take-length}
 use Rattle.std.proofs.Math.Decide.{dec_lt}
 
 -- x is not from low to high
@@ -54,3 +58,22 @@ some_to-each p l (suc k) i e h =
       | yes b ↦ some_to-each p l k i n.0 b
       | no b ↦ let s : i ≡ k = omega arith in rw s n.1
     ]
+
+-- what `any` finds in a list with the index of each: whether one of them has p
+pub any-some_to : (p : ℕ → ℕ → Bool) (l : List ℕ) → list_any (λ (x : ℕ × ℕ). p x.0 x.1) (enumerate_from 0 l) ≡ some_to p l (length l)
+unfolding some_to
+any-some_to p l =
+    ap (list_any test) (sym (take-length pairs) ∙ ap (λ (k : ℕ). take k pairs) (length-enumerate_from 0 l)) ∙ go (length l) (omega arith)
+  where
+    test : ℕ × ℕ → Bool
+    test x = p x.0 x.1
+
+    pairs : List (ℕ × ℕ)
+    pairs = enumerate_from 0 l
+
+    go : (k : ℕ) → k ≤ length l → list_any test (take k pairs) ≡ some_to p l k
+    go zero h = refl
+    go (suc k) h =
+        let within : k < length l = omega arith in
+        rw (← add-one) (list_any_more test pairs k (0, 0) (omega (arith, length-enumerate_from 0 l)))
+        ∙ ap₂ ◌||◌ (go k (omega arith)) (ap test (get_or-enumerate_from 0 l k (0, 0) within) ∙ ap (λ (n : ℕ). p n (get_or l k 0)) (zero-add k))

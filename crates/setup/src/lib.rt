@@ -8,7 +8,7 @@ ghost use Rattle.setup.specs.Setup as rule;
 ghost use Rattle.setup.specs.Laws.{InLimits};
 
 // What a setup names beside its first readings: document 01's n, f, r, T, D, A, P and the mask of faulty stations.
-#[derive(Clone, Copy)]
+#[derive(Clone, Copy, Default)]
 pub struct Plan {
     pub stations: u64,
     pub faults: u64,
@@ -125,13 +125,10 @@ fn some_bad_first(plan: Plan, first: &[u64]) -> bool
     requires { InLimits plan }
     ensures { result ≡ some_to (rule.bad_first plan) first.now (length first.now) }
 {
-    let mut bad = false;
-    let mut i = 0;
-    while i < first.len() {
-        bad = bad | bad_first(plan, i as u64, first[i]);
-        i += 1;
-    }
-    bad
+    first
+        .iter()
+        .enumerate()
+        .any(|(i, &x)| bad_first(plan, i as u64, x))
 }
 
 // The answer to a setup: 1 to 8, or 0.
