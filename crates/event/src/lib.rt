@@ -2,7 +2,6 @@
 #![tactic(auto)]
 
 ghost use Rattle.std.specs.Prelude.{◌≡◌, length};
-ghost use Rattle.clock.specs.Pick.{pick};
 ghost use Rattle.clock.specs.Tests.{some_to};
 ghost use Rattle.event.specs.Event as rule;
 
@@ -38,13 +37,10 @@ fn bad_increment(faulty: u64, i: u64, x: u64) -> bool
 fn some_bad_increment(faulty: u64, increments: &[u64]) -> bool
     ensures { result ≡ some_to (rule.bad_increment faulty) increments.now (length increments.now) }
 {
-    let mut bad = false;
-    let mut i = 0;
-    while i < increments.len() {
-        bad = bad | bad_increment(faulty, i as u64, increments[i]);
-        i += 1;
-    }
-    bad
+    increments
+        .iter()
+        .enumerate()
+        .any(|(i, &x)| bad_increment(faulty, i as u64, x))
 }
 
 // Whether an advance is barred: d outside its limits, not n increments, or one that is barred.
@@ -67,36 +63,6 @@ fn bad_ends(stations: u64, faulty: u64, sender: u64, recipient: u64, round: u64)
         | clock::outside(1, clock::MAX_ROUND, round)
 }
 
-// Whether a deliver is barred.
-fn bad_deliver(
-    stations: u64,
-    faulty: u64,
-    sender: u64,
-    recipient: u64,
-    round: u64,
-    kind: u64,
-) -> bool
-    ensures { result ≡ rule.bad_deliver stations faulty sender recipient round kind }
-{
-    bad_ends(stations, faulty, sender, recipient, round) | (1 < kind)
-}
-
-// Whether a faulty send is barred.
-fn bad_send(
-    stations: u64,
-    faulty: u64,
-    sender: u64,
-    recipient: u64,
-    round: u64,
-    signers: u64,
-) -> bool
-    ensures { result ≡ rule.bad_send stations faulty sender recipient round signers }
-{
-    bad_ends(stations, faulty, sender, recipient, round)
-        | (signers == 0)
-        | !mask::below(signers, stations)
-}
-
 // Whether rule 11 bars an event of a line of so many stations with these faulty ones.
 pub fn barred(stations: u64, faulty: u64, event: Event, increments: &[u64]) -> bool
     ensures { result ≡ rule.barred stations faulty event increments.now }
@@ -108,21 +74,18 @@ pub fn barred(stations: u64, faulty: u64, event: Event, increments: &[u64]) -> b
             recipient,
             round,
             kind,
-        } => bad_deliver(stations, faulty, sender, recipient, round, kind),
+        } => bad_ends(stations, faulty, sender, recipient, round) | (1 < kind),
         Event::Send {
             sender,
             recipient,
             round,
             signers,
-        } => bad_send(stations, faulty, sender, recipient, round, signers),
+        } => {
+            bad_ends(stations, faulty, sender, recipient, round)
+                | (signers == 0)
+                | !mask::below(signers, stations)
+        }
     }
-}
-
-// A station, or n where its message is barred.
-fn unless(barred: bool, stations: u64, i: u64) -> u64
-    ensures { result ≡ pick barred stations i }
-{
-    if barred { stations } else { i }
 }
 
 // The station that hears an event: the recipient of a message that 11 does not bar. There is none for an advance or a barred
@@ -132,23 +95,12 @@ pub fn hearer(stations: u64, faulty: u64, event: Event) -> u64
 {
     match event {
         Event::Advance(_) => stations,
-        Event::Deliver {
-            sender,
-            recipient,
-            round,
-            kind,
-        } => {
-            let barred = bad_deliver(stations, faulty, sender, recipient, round, kind);
-            unless(barred, stations, recipient)
-        }
-        Event::Send {
-            sender,
-            recipient,
-            round,
-            signers,
-        } => {
-            let barred = bad_send(stations, faulty, sender, recipient, round, signers);
-            unless(barred, stations, recipient)
+        Event::Deliver { recipient, .. } | Event::Send { recipient, .. } => {
+            if barred(stations, faulty, event, &[]) {
+                stations
+            } else {
+                recipient
+            }
         }
     }
 }

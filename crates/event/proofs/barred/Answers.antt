@@ -8,8 +8,8 @@ returns-in-Advance c = rw c.in-Advance.is c.bad_advance.ensures
 
 pub returns-in-Deliver : goal.returns-in-Deliver
 unfolding barred
-returns-in-Deliver c = rw c.in-Deliver.is c.bad_deliver.ensures
+returns-in-Deliver c = rw (c.in-Deliver.is, c.bad_ends.ensures)
 
 pub returns-in-Send : goal.returns-in-Send
 unfolding barred
-returns-in-Send c = rw c.in-Send.is c.bad_send.ensures
+returns-in-Send c = rw (c.in-Send.is, c.bad_ends-in-Send.ensures, c.below.ensures)

@@ -1,29 +1,14 @@
--- `event::some_bad_increment` says whether some increment is barred: after i turns `bad` says it of the first i. The measure
--- is what is left of the increments. Assumes nothing.
-use mathlib.Core.Path.{◌≡◌, sym, ap, ◌∙◌}
-use lib.ListN.{length}
-use Rattle.clock.specs.Tests.{some_to, some_to-none, some_to-more}
-use native.Mathlib.Omega.{arith}
+-- `event::some_bad_increment` says whether some increment is bad: `any` asks `bad_increment` of each increment with its index. Assumes nothing.
+use Rattle.std.proofs.Common.{ℕ, ◌∙◌, rules, tests}
+use Rattle.std.proofs.lemmas.Iterator.{YieldsList-from_slice}
+use Rattle.std.proofs.lemmas.Iterator.Consumers.{YieldsList-from_enumerate}
+use Rattle.std.proofs.lemmas.Iterator.Search.{any_from_yields_List}
+use Rattle.clock.specs.Tests.{any-some_to}
+use Rattle.event.specs.Event.{bad_increment}
 use Rattle.event.proofs.some_bad_increment.Goals as goal
 
-pub loop-i-init : goal.loop-i-init
-loop-i-init c = (omega arith, sym (some_to-none _ _))
-
-pub offset_bounds-increments-i : goal.offset_bounds-increments-i
-offset_bounds-increments-i c = omega arith
-
-pub bounds-increments-i : goal.bounds-increments-i
-bounds-increments-i c = omega arith
-
-pub overflow_add-i : goal.overflow_add-i
-overflow_add-i c = omega arith
-
-pub loop-i-smaller : goal.loop-i-smaller
-loop-i-smaller c = omega arith
-
-pub loop-i-preserved : goal.loop-i-preserved
-loop-i-preserved c = (omega arith, some_to-more _ _ _ c.loop-i.invariant.1 c.bad_increment-bad.ensures)
-
 pub returns : goal.returns
-returns c = let e : c.loop-i.i ≡ length c.args.increments.now = omega arith in
-    c.loop-i.invariant.1 ∙ ap (some_to _ _) e
+returns c =
+    any_from_yields_List (λ (x : ℕ × ℕ). bad_increment c.args.faulty x.0 x.1) _ _ _ c.any.ensures.ran
+    (YieldsList-from_enumerate (YieldsList-from_slice c.args.increments.now (cc)) c.enumerate.ensures.count) (λ x b q k. search (rules, tests))
+    ∙ any-some_to _ _
