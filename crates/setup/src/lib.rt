@@ -48,40 +48,71 @@ fn bad_marks(plan: Plan) -> bool
     !mask::below(plan.faulty, plan.stations) | (plan.faults < mask::count(plan.faulty))
 }
 
-// gap: P > A and (P - A)·M > T·S.
-fn gap(plan: Plan) -> bool
-    requires { InLimits plan }
-    ensures { result ≡ rule.gap plan }
-{
-    if plan.period <= plan.step {
-        return false;
+// A plan that 3 does not refuse: no product of the rules that follow wraps.
+#[derive(Clone, Copy)]
+struct Limited {
+    plan: Plan,
+    ghost in_limits: { InLimits plan },
+}
+
+impl Limited {
+    // gap: P > A and (P - A)·M > T·S.
+    fn gap(self) -> bool
+        ensures { result ≡ rule.gap self.plan }
+    {
+        let plan = self.plan;
+        if plan.period <= plan.step {
+            return false;
+        }
+        let s = clock::PARTS + plan.drift;
+        plan.bound * s < (plan.period - plan.step) * clock::PARTS
     }
-    let s = clock::PARTS + plan.drift;
-    plan.bound * s < (plan.period - plan.step) * clock::PARTS
-}
 
-// step: A·M·M >= (S·D + M·T)·S.
-fn steps(plan: Plan) -> bool
-    requires { InLimits plan }
-    ensures { result ≡ rule.steps plan }
-{
-    let m = clock::PARTS;
-    let s = m + plan.drift;
-    (s * plan.spread + m * plan.bound) * s <= plan.step * m * m
-}
+    // step: A·M·M >= (S·D + M·T)·S.
+    fn steps(self) -> bool
+        ensures { result ≡ rule.steps self.plan }
+    {
+        let plan = self.plan;
+        let m = clock::PARTS;
+        let s = m + plan.drift;
+        (s * plan.spread + m * plan.bound) * s <= plan.step * m * m
+    }
 
-// spread: D·S·M·M >= (P·S + T·M)·(S·S - M·M) + T·S·S·M.
-fn spreads(plan: Plan) -> bool
-    requires { InLimits plan }
-    ensures { result ≡ rule.spreads plan }
-{
-    let m = clock::PARTS;
-    let s = m + plan.drift;
-    (plan.period * s + plan.bound * m) * (s * s - m * m) + plan.bound * s * s * m
-        <= plan.spread * s * m * m
+    // spread: D·S·M·M >= (P·S + T·M)·(S·S - M·M) + T·S·S·M.
+    fn spreads(self) -> bool
+        ensures { result ≡ rule.spreads self.plan }
+    {
+        let plan = self.plan;
+        let m = clock::PARTS;
+        let s = m + plan.drift;
+        (plan.period * s + plan.bound * m) * (s * s - m * m) + plan.bound * s * s * m
+            <= plan.spread * s * m * m
+    }
+
+    // Whether station i's first reading x breaks its rule: zero for a faulty station, for a sound one from A to A + T.
+    fn bad_first(self, i: u64, x: u64) -> bool
+        ensures { result ≡ rule.bad_first self.plan i x }
+    {
+        let plan = self.plan;
+        if mask::has(plan.faulty, i) {
+            return x != 0;
+        }
+        clock::outside(plan.step, plan.step + plan.bound, x)
+    }
+
+    // Whether one of the first readings breaks its rule.
+    fn some_bad_first(self, first: &[u64]) -> bool
+        ensures { result ≡ some_to (rule.bad_first self.plan) first.now (length first.now) }
+    {
+        first
+            .iter()
+            .enumerate()
+            .any(|(i, &x)| self.bad_first(i as u64, x))
+    }
 }
 
 // The answer to a plan, first readings apart: 1 to 7, or 0.
+#[tactic(auto, unfolding(crate::specs::Setup::plan_answer, crate::specs::Setup::bad_stations))]
 pub fn plan_answer(plan: Plan) -> u64
     ensures { result ≡ rule.plan_answer plan }
 {
@@ -97,38 +128,17 @@ pub fn plan_answer(plan: Plan) -> u64
     if bad_marks(plan) {
         return 4;
     }
-    if !gap(plan) {
+    let limited = Limited { plan };
+    if !limited.gap() {
         return 5;
     }
-    if !steps(plan) {
+    if !limited.steps() {
         return 6;
     }
-    if !spreads(plan) {
+    if !limited.spreads() {
         return 7;
     }
     0
-}
-
-// Whether station i's first reading x breaks its rule: zero for a faulty station, for a sound one from A to A + T.
-fn bad_first(plan: Plan, i: u64, x: u64) -> bool
-    requires { InLimits plan }
-    ensures { result ≡ rule.bad_first plan i x }
-{
-    if mask::has(plan.faulty, i) {
-        return x != 0;
-    }
-    clock::outside(plan.step, plan.step + plan.bound, x)
-}
-
-// Whether one of the first readings breaks its rule.
-fn some_bad_first(plan: Plan, first: &[u64]) -> bool
-    requires { InLimits plan }
-    ensures { result ≡ some_to (rule.bad_first plan) first.now (length first.now) }
-{
-    first
-        .iter()
-        .enumerate()
-        .any(|(i, &x)| bad_first(plan, i as u64, x))
 }
 
 // The answer to a setup: 1 to 8, or 0.
@@ -142,7 +152,8 @@ pub fn answer(plan: Plan, first: &[u64]) -> u64
     if first.len() as u64 != plan.stations {
         return 8;
     }
-    if some_bad_first(plan, first) {
+    let limited = Limited { plan };
+    if limited.some_bad_first(first) {
         return 8;
     }
     0

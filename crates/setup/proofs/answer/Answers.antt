@@ -33,9 +33,8 @@ pub returns-then-first-plan : goal.returns-then-first-plan
 returns-then-first-plan c = sym (others _ _ (sym c.plan_answer-number.ensures ∙ c.if-number-ne0.false)
     c.if-first-plan.true)
 
-pub some_bad_first-requires : goal.some_bad_first-requires
-some_bad_first-requires c = (planned _ (sym c.plan_answer-number.ensures
-    ∙ c.if-number-ne0.false)).limits
+pub invariant_of-limited : goal.invariant_of-limited
+invariant_of-limited c = record { in_limits = (planned _ (sym c.plan_answer-number.ensures ∙ c.if-number-ne0.false)).limits }
 
 pub returns-then-some_bad_first : goal.returns-then-some_bad_first
 returns-then-some_bad_first c = sym (same _ _ true (sym c.plan_answer-number.ensures

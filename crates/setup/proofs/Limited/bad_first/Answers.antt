@@ -1,7 +1,7 @@
--- `setup::bad_first` answers `bad_first`, by whether the mask has the station. Assumes nothing.
+-- `setup::Limited::bad_first` answers `bad_first`, by whether the mask has the station. Assumes nothing.
 use mathlib.Core.Path.{sym, ◌∙◌}
 use Rattle.setup.specs.Setup.{bad_first}
-use Rattle.setup.proofs.bad_first.Goals as goal
+use Rattle.setup.proofs.Limited.bad_first.Goals as goal
 
 pub returns-then-has : goal.returns-then-has
 unfolding bad_first
