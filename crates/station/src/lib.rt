@@ -14,7 +14,7 @@ use setup::Plan;
 
 // A station: its round, what its clock shows, the last round it signed (0: none) and the signers it has gathered for the
 // round it waits for.
-#[derive(Clone, Copy)]
+#[derive(Clone, Copy, Default, PartialEq)]
 pub struct Station {
     pub round: u64,
     pub reading: Reading,
@@ -38,46 +38,6 @@ pub struct Board {
     pub outcome: Outcome,
 }
 
-// The mark of the round that the station waits for.
-fn mark_for(plan: Plan, s: Station) -> Reading
-    requires { Small plan s }
-    ensures { result.0 ≡ rule.mark_for plan s }
-{
-    Reading::mark(s.round + 1, plan.period)
-}
-
-// The station starts the round it waits for: its reading becomes the mark and A, and its gathering begins empty.
-fn start(plan: Plan, s: Station) -> Station
-    requires { Small plan s }
-    ensures { result ≡ rule.start plan s }
-{
-    Station {
-        round: s.round + 1,
-        reading: mark_for(plan, s).on(plan.step),
-        signed: s.signed,
-        gathered: 0,
-    }
-}
-
-// As soon as it holds f + 1 signatures it starts, and relays every one that it then holds.
-fn settle(ready: bool, plan: Plan, s: Station) -> Outcome
-    requires { Small plan s }
-    ensures { result ≡ rule.settle ready plan s }
-{
-    if plan.faults < mask::count(s.gathered) {
-        return Outcome {
-            station: start(plan, s),
-            ready: ready,
-            relay: s.gathered,
-        };
-    }
-    Outcome {
-        station: s,
-        ready: ready,
-        relay: 0,
-    }
-}
-
 // The station as it is.
 fn still(s: Station) -> Outcome
     ensures { result ≡ rule.still s }
@@ -89,72 +49,151 @@ fn still(s: Station) -> Outcome
     }
 }
 
-// It hears signatures of a round, and ignores those of any round but the one it waits for.
-fn gather(plan: Plan, round: u64, signers: u64, s: Station) -> Outcome
-    requires { Small plan s }
-    ensures { result ≡ rule.hear plan round signers s }
-{
-    if round != s.round + 1 {
-        return still(s);
+// A station under a plan, with its round, the period and the step within their limits.
+#[derive(Clone, Copy)]
+struct Limited {
+    plan: Plan,
+    s: Station,
+    ghost limits: { Small plan s },
+}
+
+impl Limited {
+    // The mark of the round that the station waits for.
+    fn mark_for(self) -> Reading
+        ensures { result.0 ≡ rule.mark_for self.plan self.s }
+    {
+        Reading::mark(self.s.round + 1, self.plan.period)
     }
-    let mut next = s;
-    next.gathered = mask::join(s.gathered, signers);
-    settle(false, plan, next)
-}
 
-// Station i signs the round it waits for, and counts its own signature.
-fn sign(plan: Plan, i: u64, s: Station) -> Outcome
-    requires { Small plan s }
-    ensures { result ≡ rule.sign plan i s }
-{
-    let mut next = s;
-    next.signed = s.round + 1;
-    next.gathered = mask::join(s.gathered, mask::only(i));
-    settle(true, plan, next)
-}
-
-// Whether by so much its reading comes up from below to the mark.
-fn lands(plan: Plan, by: u64, s: Station) -> bool
-    requires { Steady plan by s }
-    ensures { result ≡ rule.lands plan by s }
-{
-    let mark = mark_for(plan, s).0;
-    (s.reading.0 < mark) & (s.reading.0 + by == mark)
-}
-
-// Whether by so much it would pass the mark.
-fn passes(plan: Plan, by: u64, s: Station) -> bool
-    requires { Steady plan by s }
-    ensures { result ≡ rule.passes plan by s }
-{
-    let mark = mark_for(plan, s).0;
-    (s.reading.0 < mark) & (mark < s.reading.0 + by)
-}
-
-// Whether by so much its reading would exceed the limit, or it would reach its next mark in the last round.
-fn exceeds(plan: Plan, by: u64, s: Station) -> bool
-    requires { Steady plan by s }
-    ensures { result ≡ board.exceeds plan by s }
-{
-    let mark = mark_for(plan, s).0;
-    (MAX_READING < s.reading.0 + by) | ((s.round == MAX_ROUND) & (mark <= s.reading.0 + by))
-}
-
-// Its clock goes on, and it signs where that brings it up to the mark.
-fn go_on(plan: Plan, i: u64, by: u64, s: Station) -> Outcome
-    requires { Steady plan by s }
-    ensures { result ≡ rule.advance plan i by s }
-{
-    let next = Station {
-        round: s.round,
-        reading: s.reading.on(by),
-        signed: s.signed,
-        gathered: s.gathered,
-    };
-    if lands(plan, by, s) {
-        return sign(plan, i, next);
+    // The station starts the round it waits for: its reading becomes the mark and A, and its gathering begins empty.
+    fn start(self) -> Station
+        ensures { result ≡ rule.start self.plan self.s }
+    {
+        Station {
+            round: self.s.round + 1,
+            reading: self.mark_for().on(self.plan.step),
+            gathered: 0,
+            ..self.s
+        }
     }
-    still(next)
+
+    // As soon as it holds f + 1 signatures it starts, and relays every one that it then holds.
+    fn settle(self, ready: bool) -> Outcome
+        ensures { result ≡ rule.settle ready self.plan self.s }
+    {
+        let s = self.s;
+        if self.plan.faults < mask::count(s.gathered) {
+            return Outcome {
+                station: self.start(),
+                ready,
+                relay: s.gathered,
+            };
+        }
+        Outcome {
+            station: s,
+            ready,
+            relay: 0,
+        }
+    }
+
+    // It hears signatures of a round, and ignores those of any round but the one it waits for.
+    fn gather(self, round: u64, signers: u64) -> Outcome
+        ensures { result ≡ rule.hear self.plan round signers self.s }
+    {
+        if round != self.s.round + 1 {
+            return still(self.s);
+        }
+        let mut next = self;
+        next.s.gathered = mask::join(self.s.gathered, signers);
+        next.settle(false)
+    }
+
+    // Station i signs the round it waits for, and counts its own signature.
+    fn sign(self, i: u64) -> Outcome
+        ensures { result ≡ rule.sign self.plan i self.s }
+    {
+        let mut next = self;
+        next.s.signed = self.s.round + 1;
+        next.s.gathered = mask::join(self.s.gathered, mask::only(i));
+        next.settle(true)
+    }
+
+    // Whether the last signed round breaks its rule.
+    fn bad_signed(self) -> bool
+        ensures { result ≡ board.bad_signed self.plan self.s }
+    {
+        let s = self.s;
+        let mark = self.mark_for().0;
+        if mark <= s.reading.0 {
+            return s.signed != s.round + 1;
+        }
+        s.round + 1 <= s.signed
+    }
+}
+
+// Such a station whose reading is within its limit too, and an increment within its own.
+#[derive(Clone, Copy)]
+struct Moving {
+    plan: Plan,
+    by: u64,
+    s: Station,
+    ghost limits: { Steady plan by s },
+}
+
+impl Moving {
+    // The mark of the round that the station waits for.
+    fn mark(self) -> u64
+        ensures { result ≡ rule.mark_for self.plan self.s }
+    {
+        let still = Limited {
+            plan: self.plan,
+            s: self.s,
+        };
+        still.mark_for().0
+    }
+
+    // Whether by so much its reading comes up from below to the mark.
+    fn lands(self) -> bool
+        ensures { result ≡ rule.lands self.plan self.by self.s }
+    {
+        let mark = self.mark();
+        (self.s.reading.0 < mark) & (self.s.reading.0 + self.by == mark)
+    }
+
+    // Whether by so much it would pass the mark.
+    fn passes(self) -> bool
+        ensures { result ≡ rule.passes self.plan self.by self.s }
+    {
+        let mark = self.mark();
+        (self.s.reading.0 < mark) & (mark < self.s.reading.0 + self.by)
+    }
+
+    // Whether by so much its reading would exceed the limit, or it would reach its next mark in the last round.
+    fn exceeds(self) -> bool
+        ensures { result ≡ board.exceeds self.plan self.by self.s }
+    {
+        let mark = self.mark();
+        let reading = self.s.reading.0 + self.by;
+        (MAX_READING < reading) | ((self.s.round == MAX_ROUND) & (mark <= reading))
+    }
+
+    // Its clock goes on, and it signs where that brings it up to the mark.
+    fn go_on(self, i: u64) -> Outcome
+        ensures { result ≡ rule.advance self.plan i self.by self.s }
+    {
+        let next = Station {
+            reading: self.s.reading.on(self.by),
+            ..self.s
+        };
+        if self.lands() {
+            let landed = Limited {
+                plan: self.plan,
+                s: next,
+            };
+            return landed.sign(i);
+        }
+        still(next)
+    }
 }
 
 // Whether the round, the period and the step are within the limits.
@@ -178,7 +217,8 @@ pub fn heard(plan: Plan, round: u64, signers: u64, s: Station) -> Outcome
     if !small(plan, s) {
         return still(s);
     }
-    gather(plan, round, signers, s)
+    let limited = Limited { plan, s };
+    limited.gather(round, signers)
 }
 
 // What an increment does to station i; nothing where a number is past its limit.
@@ -188,7 +228,8 @@ pub fn advanced(plan: Plan, i: u64, by: u64, s: Station) -> Outcome
     if !steady(plan, by, s) {
         return still(s);
     }
-    go_on(plan, i, by, s)
+    let moving = Moving { plan, by, s };
+    moving.go_on(i)
 }
 
 // Why an increment is refused: 12, then 14; 0 where it is not. Past the limits, 12.
@@ -198,10 +239,11 @@ pub fn refuses(plan: Plan, by: u64, s: Station) -> u64
     if !steady(plan, by, s) {
         return 12;
     }
-    if exceeds(plan, by, s) {
+    let moving = Moving { plan, by, s };
+    if moving.exceeds() {
         return 12;
     }
-    if passes(plan, by, s) {
+    if moving.passes() {
         return 14;
     }
     0
@@ -212,18 +254,6 @@ fn bad_numbers(s: Station) -> bool
     ensures { result ≡ board.bad_numbers s }
 {
     (MAX_ROUND < s.round) | (MAX_READING < s.reading.0) | (MAX_ROUND < s.signed)
-}
-
-// Whether the last signed round breaks its rule.
-fn bad_signed(plan: Plan, s: Station) -> bool
-    requires { Small plan s }
-    ensures { result ≡ board.bad_signed plan s }
-{
-    let mark = mark_for(plan, s).0;
-    if mark <= s.reading.0 {
-        return s.signed != s.round + 1;
-    }
-    s.round + 1 <= s.signed
 }
 
 // Whether more than f signers are gathered, or one at n or above.
@@ -246,7 +276,8 @@ pub fn bad_station(plan: Plan, s: Station) -> bool
     if bad_numbers(s) {
         return true;
     }
-    bad_signed(plan, s) | bad_gathered(plan, s)
+    let limited = Limited { plan, s };
+    limited.bad_signed() | bad_gathered(plan, s)
 }
 
 // 10: whether the plan or the board's own record breaks a rule.
@@ -275,9 +306,10 @@ pub fn hear(plan: Plan, round: u64, signers: u64, s: Station) -> Board
             outcome: still(s),
         };
     }
+    let limited = Limited { plan, s };
     Board {
         answer: 0,
-        outcome: gather(plan, round, signers, s),
+        outcome: limited.gather(round, signers),
     }
 }
 
@@ -304,8 +336,9 @@ pub fn advance(plan: Plan, i: u64, by: u64, s: Station) -> Board
             outcome: still(s),
         };
     }
+    let moving = Moving { plan, by, s };
     Board {
         answer: 0,
-        outcome: go_on(plan, i, by, s),
+        outcome: moving.go_on(i),
     }
 }

@@ -53,12 +53,14 @@ returns-then-number-ne0 c =
     a.plan a.by a.s w) at c.refuses-number.ensures))) c.if-number-ne0.true
     c.still-then-number-ne0.ensures
 
-pub go_on-requires : goal.go_on-requires
-go_on-requires c =
+pub invariant_of-moving : goal.invariant_of-moving
+invariant_of-moving c =
     let a = c.args in
-    within a.plan a.by a.s (sym c.bad_board.ensures
-    ∙ c.if-bad_board.false) (leb a.plan.stations
-    a.i || c.has.result) c.if-plan-i.false
+    record {
+      limits = within a.plan a.by a.s (sym c.bad_board.ensures
+          ∙ c.if-bad_board.false) (leb a.plan.stations
+          a.i || c.has.result) c.if-plan-i.false;
+    }
 
 pub returns : goal.returns
 unfolding advance_answer

@@ -23,14 +23,16 @@ returns-then-bad_numbers c = rw (
   (sym c.bad_numbers.ensures ∙ c.if-bad_numbers.true),
 )
 
-pub bad_signed-requires : goal.bad_signed-requires
+pub invariant_of-limited : goal.invariant_of-limited
 unfolding bad_numbers
-bad_signed-requires c = record {
-  round = ltb-false _ _ (neither _ _ (neither _ _ (sym
-      c.bad_numbers.ensures ∙ c.if-bad_numbers.false)).0).0;
-  period =
-      c.if-plan-gt-MAX_PERIOD.false;
-  step = c.if-plan-gt-MAX_STEP.false;
+invariant_of-limited c = record {
+  limits = record {
+    round = ltb-false _ _ (neither _ _ (neither _ _ (sym
+        c.bad_numbers.ensures ∙ c.if-bad_numbers.false)).0).0;
+    period =
+        c.if-plan-gt-MAX_PERIOD.false;
+    step = c.if-plan-gt-MAX_STEP.false;
+  };
 }
 
 pub returns : goal.returns

@@ -20,9 +20,11 @@ returns-then-outside-signers c = answered-no 11 _ _ _ _ (rw (
   c.if-outside-signers.true,
 )) (λ z. omega arith) c.still-then-outside-signers.ensures
 
-pub gather-requires : goal.gather-requires
-gather-requires c = (sound-small _ _ (sym c.bad_board.ensures
-    ∙ c.if-bad_board.false)).0
+pub invariant_of-limited : goal.invariant_of-limited
+invariant_of-limited c = record {
+  limits = (sound-small _ _ (sym c.bad_board.ensures
+      ∙ c.if-bad_board.false)).0;
+}
 
 pub returns : goal.returns
 unfolding hear_answer

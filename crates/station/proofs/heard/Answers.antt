@@ -6,8 +6,8 @@ use Rattle.station.proofs.heard.Goals as goal
 pub returns-then-not-small : goal.returns-then-not-small
 returns-then-not-small c = rw (sym c.small.ensures ∙ c.if-not-small.true) c.still.ensures
 
-pub gather-requires : goal.gather-requires
-gather-requires c = small_is _ _ (sym c.small.ensures ∙ c.if-not-small.false)
+pub invariant_of-limited : goal.invariant_of-limited
+invariant_of-limited c = record { limits = small_is _ _ (sym c.small.ensures ∙ c.if-not-small.false) }
 
 pub returns : goal.returns
 returns c = rw (sym c.small.ensures ∙ c.if-not-small.false) c.gather.ensures

@@ -7,8 +7,8 @@ use Rattle.station.proofs.refuses.Goals as goal
 pub returns-then-not-steady : goal.returns-then-not-steady
 returns-then-not-steady c = rw (sym c.steady.ensures ∙ c.if-not-steady.true)
 
-pub exceeds-requires : goal.exceeds-requires
-exceeds-requires c = steady-is _ _ _ (sym c.steady.ensures ∙ c.if-not-steady.false)
+pub invariant_of-moving : goal.invariant_of-moving
+invariant_of-moving c = record { limits = steady-is _ _ _ (sym c.steady.ensures ∙ c.if-not-steady.false) }
 
 pub returns-then-exceeds : goal.returns-then-exceeds
 unfolding move_answer
@@ -16,9 +16,6 @@ returns-then-exceeds c = rw (
   (sym c.steady.ensures ∙ c.if-not-steady.false),
   (sym c.exceeds.ensures ∙ c.if-exceeds.true),
 )
-
-pub passes-requires : goal.passes-requires
-passes-requires c = steady-is _ _ _ (sym c.steady.ensures ∙ c.if-not-steady.false)
 
 pub returns-then-passes : goal.returns-then-passes
 unfolding move_answer

@@ -1,10 +1,7 @@
--- `station::exceeds` answers `exceeds`, from the mark. Assumes nothing.
+-- `station::Moving::exceeds` answers `exceeds`, from the mark. Assumes nothing.
 use Rattle.station.specs.Record.{exceeds}
-use Rattle.station.proofs.exceeds.Goals as goal
-
-pub mark_for-mark-requires : goal.mark_for-mark-requires
-mark_for-mark-requires c = c.requires.limits
+use Rattle.station.proofs.Moving.exceeds.Goals as goal
 
 pub returns : goal.returns
 unfolding exceeds
-returns c = rw c.mark_for-mark.ensures
+returns c = rw c.mark-mark.ensures

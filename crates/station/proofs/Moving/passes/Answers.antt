@@ -1,10 +1,7 @@
--- `station::passes` answers `passes`, from the mark. Assumes nothing.
+-- `station::Moving::passes` answers `passes`, from the mark. Assumes nothing.
 use Rattle.station.specs.Station.{passes}
-use Rattle.station.proofs.passes.Goals as goal
-
-pub mark_for-mark-requires : goal.mark_for-mark-requires
-mark_for-mark-requires c = c.requires.limits
+use Rattle.station.proofs.Moving.passes.Goals as goal
 
 pub returns : goal.returns
 unfolding passes
-returns c = rw c.mark_for-mark.ensures
+returns c = rw c.mark-mark.ensures
