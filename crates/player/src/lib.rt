@@ -14,16 +14,21 @@ fn play(
     out: &mut [u8],
 ) -> Result<()> {
     let mut part = opened;
-    let mut parts: u64 = 0;
-    while parts < clock::MAX_SCRIPT {
-        let line = part.line;
-        part = run::play_part(line, words, bytes, part.next, part.number, out, part.place);
+    for _ in 0..clock::MAX_SCRIPT {
+        part = run::play_part(
+            part.line,
+            words,
+            bytes,
+            part.next,
+            part.number,
+            out,
+            part.place,
+        );
         paper::print(rt, out, part.place)?;
         part.place = 0;
-        if (part.answer != 0) | (part.next >= bytes.len()) {
+        if part.answer != 0 || part.next >= bytes.len() {
             return Ok(());
         }
-        parts += 1;
     }
     Ok(())
 }
