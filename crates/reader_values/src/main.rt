@@ -2,7 +2,7 @@
 // ones.
 #![tactic(auto)]
 
-use std::io;
+use std::io::Result;
 
 // Document 01's rehearsal script: a setup of 11 bytes and eight events of 5.
 const REHEARSAL: [u8; 51] = [
@@ -10,53 +10,27 @@ const REHEARSAL: [u8; 51] = [
     1, 0, 1, 1, 1, 3, 3, 3, 0, 2, 1, 0, 1, 0, 1, 1, 1, 1, 0,
 ];
 
-fn text(rt: &impl Print, what: &[u8]) -> io::Result<()> {
-    rt.write_all(what)
-}
-
-fn show(rt: &impl Print, n: u64) -> io::Result<()> {
-    print!(rt; "{n}")
-}
-
-fn show_byte(rt: &impl Print, byte: u8) -> io::Result<()> {
-    text(rt, b" ")?;
-    print!(rt; "{byte:02x}")
-}
-
-fn show_bytes(rt: &impl Print, bytes: &[u8]) -> io::Result<()> {
-    let mut i: usize = 0;
-    while i < bytes.len() {
-        show_byte(rt, bytes[i])?;
-        i += 1;
-    }
-    Ok(())
-}
-
 // The answer to reading an event at a place, the place then, and the rest. Answers that place.
-fn show_event(rt: &impl Print, bytes: &[u8], at: usize, stations: u64) -> io::Result<usize> {
+fn show_event(rt: &impl Print, bytes: &[u8], at: usize, stations: u64) -> Result<usize> {
     let read = reader::event_at(bytes, at, stations);
-    show(rt, read.answer)?;
-    text(rt, b" ")?;
-    show(rt, read.next as u64)?;
-    text(rt, b":")?;
-    show_bytes(rt, reader::rest_behind(bytes, at, stations))?;
-    text(rt, b"\n")?;
+    print!(rt; "{} {}:", read.answer, read.next)?;
+    for byte in reader::rest_behind(bytes, at, stations) {
+        print!(rt; " {byte:02x}")?;
+    }
+    print!(rt; "\n")?;
     Ok(read.next)
 }
 
 // The eight events of the rehearsal, one after the other, and what a ninth is answered.
-fn rehearsal(rt: &impl Print) -> io::Result<()> {
-    let script = REHEARSAL;
-    let mut at: usize = 11;
-    let mut i: usize = 0;
-    while i < 9 {
-        at = show_event(rt, &script, at, 3)?;
-        i += 1;
+fn rehearsal(rt: &impl Print) -> Result<()> {
+    let mut at = 11;
+    for _ in 0..9 {
+        at = show_event(rt, &REHEARSAL, at, 3)?;
     }
     Ok(())
 }
 
-fn refused(rt: &impl Print) -> io::Result<()> {
+fn refused(rt: &impl Print) -> Result<()> {
     show_event(rt, &[0x80, 0x00], 0, 3)?;
     show_event(rt, &[0x80], 0, 3)?;
     show_event(
@@ -74,12 +48,12 @@ fn refused(rt: &impl Print) -> io::Result<()> {
 }
 
 // Behind an event that is read to its end the rest is what stands there.
-fn whole(rt: &impl Print) -> io::Result<()> {
+fn whole(rt: &impl Print) -> Result<()> {
     show_event(rt, &[0x02, 0x01, 0x00, 0x80, 0x01, 0x00, 0x07, 0x09], 0, 3)?;
     Ok(())
 }
 
-fn main(rt: HostRuntime) -> io::Result<()> {
+fn main(rt: HostRuntime) -> Result<()> {
     rehearsal(&rt)?;
     refused(&rt)?;
     whole(&rt)

@@ -12,56 +12,25 @@ const REHEARSAL: [u8; 51] = [
     1, 0, 1, 1, 1, 3, 3, 3, 0, 2, 1, 0, 1, 0, 1, 1, 1, 1, 0,
 ];
 
-fn text(rt: &impl Print, what: &str) -> Result<()> {
-    print!(rt; "{what}")
-}
-
-fn show(rt: &impl Print, n: u64) -> Result<()> {
-    print!(rt; "{n}")
-}
-
 // What reading the first number of the bytes answers.
 fn show_read(rt: &impl Print, bytes: &[u8]) -> Result<()> {
-    let answer = number::read_number(bytes, 0);
-    match answer {
-        Number::Value(v, next) => {
-            show(rt, v)?;
-            text(rt, " in ")?;
-            show(rt, next as u64)?;
-        }
-        Number::Refused(n) => {
-            text(rt, "refused ")?;
-            show(rt, n)?;
-        }
+    match number::read_number(bytes, 0) {
+        Number::Value(v, next) => print!(rt; "{v} in {next}\n"),
+        Number::Refused(n) => print!(rt; "refused {n}\n"),
     }
-    text(rt, "\n")?;
-    Ok(())
-}
-
-fn show_byte(rt: &impl Print, byte: u8) -> Result<()> {
-    print!(rt; "{byte:02x} ")
-}
-
-fn show_bytes(rt: &impl Print, bytes: &[u8]) -> Result<()> {
-    let mut i: usize = 0;
-    while i < bytes.len() {
-        show_byte(rt, bytes[i])?;
-        i += 1;
-    }
-    Ok(())
 }
 
 // A number written, the buffer then, and what it reads as.
 fn there_and_back(rt: &impl Print, v: u64) -> Result<()> {
-    let mut buffer = [0xEEu8; 12];
-    let answer = writer::write_number(v, &mut buffer, 0);
-    let Written::Bytes(_) = answer else {
-        return text(rt, "not written\n");
+    let mut buffer = [0xEE; 12];
+    let Written::Bytes(_) = writer::write_number(v, &mut buffer, 0) else {
+        return print!(rt; "not written\n");
     };
-    show_bytes(rt, &buffer)?;
-    text(rt, "= ")?;
-    show_read(rt, &buffer)?;
-    Ok(())
+    for byte in buffer {
+        print!(rt; "{byte:02x} ")?;
+    }
+    print!(rt; "= ")?;
+    show_read(rt, &buffer)
 }
 
 fn numbers(rt: &impl Print) -> Result<()> {
@@ -69,7 +38,7 @@ fn numbers(rt: &impl Print) -> Result<()> {
     there_and_back(rt, 127)?;
     there_and_back(rt, 128)?;
     there_and_back(rt, 16_384)?;
-    there_and_back(rt, 18_446_744_073_709_551_615)?;
+    there_and_back(rt, u64::MAX)?;
     show_read(
         rt,
         &[0xFF, 0xFF, 0xFF, 0xFF, 0xFF, 0xFF, 0xFF, 0xFF, 0xFF, 0x02],
@@ -80,36 +49,22 @@ fn numbers(rt: &impl Print) -> Result<()> {
     )?;
     show_read(rt, &[0x80, 0x00])?;
     show_read(rt, &[0x80])?;
-    show_read(rt, &[0x00; 0])?;
-    Ok(())
+    show_read(rt, &[])
 }
 
 // What writing 128 at a place of a buffer of three bytes answers.
 fn show_room(rt: &impl Print, at: usize) -> Result<()> {
-    let mut buffer = [0u8; 3];
-    let answer = writer::write_number(128, &mut buffer, at);
-    match answer {
-        Written::Bytes(n) => {
-            text(rt, "written ")?;
-            show(rt, n as u64)?;
-        }
-        Written::Refused(n) => {
-            text(rt, "refused ")?;
-            show(rt, n)?;
-        }
+    let mut buffer = [0; 3];
+    match writer::write_number(128, &mut buffer, at) {
+        Written::Bytes(n) => print!(rt; "written {n}\n"),
+        Written::Refused(n) => print!(rt; "refused {n}\n"),
     }
-    text(rt, "\n")?;
-    Ok(())
 }
 
 // What reading an event of three stations answers.
 fn show_event(rt: &impl Print, bytes: &[u8], at: usize) -> Result<()> {
     let read = script::read_event(bytes, at, 3);
-    show(rt, read.answer)?;
-    text(rt, " ")?;
-    show(rt, read.next as u64)?;
-    text(rt, "\n")?;
-    Ok(())
+    print!(rt; "{} {}\n", read.answer, read.next)
 }
 
 fn kinds(rt: &impl Print) -> Result<()> {
@@ -122,70 +77,35 @@ fn kinds(rt: &impl Print) -> Result<()> {
     )?;
     show_event(rt, &[0x02, 0x01, 0x00, 0x01, 0x00], 0)?;
     show_event(rt, &[0x02, 0x01, 0x00, 0x01], 0)?;
-    show_event(rt, &[0x02], 9)?;
-    Ok(())
+    show_event(rt, &[0x02], 9)
 }
 
-// How many events of a script were read whole, and what stopped the reading, 0 where nothing did.
-#[derive(Clone, Copy)]
-struct Events {
-    whole: u64,
-    stop: u64,
-}
-
-// Reads the events of a line from a place on.
-fn counted(bytes: &[u8], from: usize, stations: u64) -> Events {
+// How many events of a line are read whole from a place on, and what stops the reading, 0 where nothing does.
+fn counted(bytes: &[u8], from: usize, stations: u64) -> (usize, u64) {
     let mut at = from;
-    let mut whole: u64 = 0;
-    let mut stop: u64 = 0;
-    let mut i: u64 = 0;
-    while i < 51 {
-        if at < bytes.len() {
-            let read = script::read_event(bytes, at, stations);
-            at = read.next;
-            stop = read.answer;
-            whole = one_more(whole, stop);
+    for whole in 0..bytes.len() {
+        if bytes.len() <= at {
+            return (whole, 0);
         }
-        i += 1;
+        let read = script::read_event(bytes, at, stations);
+        if read.answer != 0 {
+            return (whole, read.answer);
+        }
+        at = read.next;
     }
-    Events {
-        whole: whole,
-        stop: stop,
-    }
+    (bytes.len(), 0)
 }
 
 // The first bytes of the rehearsal: the setup's answer, how many events are whole, and what stops the reading.
 fn show_cut(rt: &impl Print, bytes: &[u8]) -> Result<()> {
     let setup = script::read_setup(bytes, 0);
-    let read = counted(bytes, setup.next, setup.plan.stations);
-    show(rt, bytes.len() as u64)?;
-    text(rt, ": ")?;
-    show(rt, setup.answer)?;
-    text(rt, " ")?;
-    show(rt, read.whole)?;
-    text(rt, " ")?;
-    show(rt, read.stop)?;
-    text(rt, "\n")?;
-    Ok(())
-}
-
-// One event more, where it was read whole.
-fn one_more(whole: u64, answer: u64) -> u64 {
-    if answer != 0 {
-        return whole;
-    }
-    if whole >= 51 {
-        return whole;
-    }
-    whole + 1
+    let (whole, stop) = counted(bytes, setup.next, setup.plan.stations);
+    print!(rt; "{}: {} {whole} {stop}\n", bytes.len(), setup.answer)
 }
 
 fn cuts(rt: &impl Print) -> Result<()> {
-    let script = REHEARSAL;
-    let mut k: usize = 0;
-    while k < 52 {
-        show_cut(rt, &script[..k])?;
-        k += 1;
+    for k in 0..=REHEARSAL.len() {
+        show_cut(rt, &REHEARSAL[..k])?;
     }
     Ok(())
 }
@@ -196,8 +116,7 @@ fn main(rt: HostRuntime) -> Result<()> {
     show_room(&rt, 1)?;
     show_room(&rt, 2)?;
     show_room(&rt, 3)?;
-    show_room(&rt, 18_446_744_073_709_551_615)?;
+    show_room(&rt, usize::MAX)?;
     kinds(&rt)?;
-    cuts(&rt)?;
-    Ok(())
+    cuts(&rt)
 }
