@@ -28,10 +28,10 @@ fn number_at(bytes: &[u8], at: usize) -> NumberRead
     ensures { result ≡ form.number_at bytes.now at }
 {
     match read_number(bytes, at) {
-        Number::Value(v, next) => NumberRead {
+        Number::Value(value, next) => NumberRead {
             answer: 0,
-            value: v,
-            next: next,
+            value,
+            next,
         },
         Number::Refused(number) => NumberRead {
             answer: number,
@@ -46,10 +46,7 @@ fn part(bytes: &[u8], at: usize) -> &[u8]
     ensures bytes_left { result.now ≡ form.part_from bytes.entry at }
     ensures address { result.ref_ptr ≡ form.part_ptr bytes.entry at }
 {
-    if bytes.len() <= at {
-        return &bytes[bytes.len()..];
-    }
-    &bytes[at..]
+    &bytes[at.min(bytes.len())..]
 }
 
 impl<'a> Reader<'a> {

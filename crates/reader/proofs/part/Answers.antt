@@ -1,6 +1,7 @@
 -- `reader::part` hands back the part from the place, or from the end where the place is past it: all that stands behind it,
 -- at its own address. Assumes nothing.
-use Prim.Native.Nat.{ℕ, ◌+◌, ◌-◌}
+use Prim.Native.Nat.{ℕ, ◌+◌, ◌-◌, min}
+use Rattle.std.proofs.Math.Decide.{dec_lt}
 use mathlib.Core.List.{List}
 use mathlib.Core.Path.{◌≡◌, ap, sym, ◌∙◌}
 use lib.ListN.{length, take, drop, length-drop}
@@ -22,12 +23,14 @@ there : (b : Bor (List ℕ)) (at from : ℕ) → within b.now at ≡ from → �
 unfolding part_ptr
 there b at from e = ap (λ (k : ℕ). (b.ref_ptr.0, k + b.ref_ptr.1)) (sym e)
 
-pub returns-then-bytes-at : goal.returns-then-bytes-at
-returns-then-bytes-at c =
-    let e = within-past c.args.bytes.now c.args.at c.if-bytes-at.true in
-    record { bytes_left = behind c.args.bytes _ _ e; address = there c.args.bytes _ _ e }
+-- the place, or the end where it is past it
+least : (s : List ℕ) (at : ℕ) → within s at ≡ min at (length s)
+least s at = elim (dec_lt at (length s)) [
+  | yes h ↦ within-before s at h ∙ omega arith
+  | no h ↦ within-past s at (omega arith) ∙ omega arith
+]
 
 pub returns : goal.returns
 returns c =
-    let e = within-before c.args.bytes.now c.args.at c.if-bytes-at.false in
+    let e = least c.args.bytes.now c.args.at ∙ sym c.min.ensures in
     record { bytes_left = behind c.args.bytes _ _ e; address = there c.args.bytes _ _ e }
