@@ -75,16 +75,7 @@ fn no_setup(answer: u64, end: usize) -> SetupRead
 {
     SetupRead {
         answer,
-        plan: Plan {
-            stations: 0,
-            faults: 0,
-            drift: 0,
-            bound: 0,
-            spread: 0,
-            step: 0,
-            period: 0,
-            faulty: 0,
-        },
+        plan: Plan::default(),
         first: [0; 12],
         next: end,
     }
