@@ -1,12 +1,16 @@
 -- The run that the code holds, place by place: a rule about the stations or about one message does not look at the words.
 use Prim.Native.Nat.{ℕ, zero, suc, ◌+◌, ◌*◌, ◌≤◌, ◌<◌}
-use Rattle.std.specs.Prelude.{Bool, true, false, ◌||◌, not, ◌≡◌, length, get_or, ltb, eqb}
+use Rattle.std.specs.Prelude.{Bool, true, false, ◌||◌, not, ◌≡◌, length, get_or, take, ltb, eqb}
+use Rattle.std.specs.List.{list_any, range_with_len}
 use mathlib.Core.List.{List, [], ◌∷◌}
 use Rattle.std.proofs.Math.Path.{refl, ap}
-use Rattle.std.proofs.Common.{ap₂, sym, ◌∙◌, add-one, arith, length-append, eq-eqb, le-leb}
+use Rattle.std.proofs.Common.{ap₂, sym, ◌∙◌, add-one, zero-add, arith, length-append, eq-eqb, le-leb}
 use Rattle.std.proofs.Math.Decide.{dec_lt}
 use Rattle.std.proofs.Math.ListN.{get_or-append, get_or-eq_default}
 use Rattle.std.proofs.lemmas.List.{get_or_at}
+use Rattle.std.proofs.lemmas.List.Folds.{list_any_more}
+use Rattle.std.proofs.lemmas.List.FromFn.{length-range_with_len, get_or-range_with_len}
+use Rattle.std.proofs.Math.Seq.{take-length}
 use Rattle.flight.specs.declared.Message.{Message}
 use Rattle.clock.specs.Limits.{max_time, max_flight}
 use Rattle.clock.specs.Tests.{neither}
@@ -59,6 +63,22 @@ pub some_more : (p : ℕ → Bool) (i : ℕ) {before here : Bool} → before ≡
 unfolding some_station
 some_more p i e f = rw add-one (ap₂ ◌||◌ e f)
 
+-- what `any` finds below n: whether one of the first n stations has p
+pub any-some_station : (p : ℕ → Bool) (n : ℕ) → list_any p (range_with_len 0 n) ≡ some_station p n
+unfolding some_station
+any-some_station p n =
+    ap (list_any p) (sym (take-length below) ∙ ap (λ (k : ℕ). take k below) (length-range_with_len 0 n)) ∙ go n (omega arith)
+  where
+    below : List ℕ
+    below = range_with_len 0 n
+
+    go : (k : ℕ) → k ≤ n → list_any p (take k below) ≡ some_station p k
+    go zero h = refl
+    go (suc k) h =
+        let within : k < n = omega arith in
+        rw (← add-one) (list_any_more p below k 0 (omega (arith, length-range_with_len 0 n)))
+        ∙ ap₂ ◌||◌ (go k (omega arith)) (ap p (get_or-range_with_len 0 n k 0 within ∙ zero-add k))
+
 module _ (l : Line) where
   pub stations-any : (words : List ℕ) (k : ℕ) → some_station (bad_station_at (run_of l words)) k ≡ some_station (bad_station_at (run_of l [])) k
   unfolding some_station bad_station_at run_of
@@ -80,6 +100,16 @@ messages-more p words i {before} {here} e f =
     or-false : (b : Bool) → (b || false) ≡ b
     or-false true = refl
     or-false false = refl
+
+-- what `any` finds among the first n places: whether one of the first n messages has p
+pub any-some_of : (p : Message → Bool) (words : List ℕ) (n : ℕ)
+    → list_any (λ (i : ℕ). p (message_at words i)) (range_with_len 0 n) ≡ some_of p (decode n words)
+unfolding some_station decode some_of
+any-some_of p words n = any-some_station (λ (i : ℕ). p (message_at words i)) n ∙ go n
+  where
+    go : (k : ℕ) → some_station (λ (i : ℕ). p (message_at words i)) k ≡ some_of p (decode k words)
+    go zero = refl
+    go (suc k) = rw add-one at (messages-more p words k (go k) refl)
 
 -- ---- the record, test by test
 

@@ -17,7 +17,7 @@ use setup::Plan;
 use station::Station;
 
 // A run: its plan, its time, the stations in the first `length` places of the table, and how many messages are in flight.
-#[derive(Clone, Copy)]
+#[derive(Clone, Copy, Default)]
 pub struct Line {
     pub plan: Plan,
     pub time: Moment,
@@ -29,7 +29,7 @@ pub struct Line {
 // ---- a fresh run
 
 // The answer to a setup: 0 with the run at its beginning, or 1 to 8 and no run.
-#[derive(Clone, Copy)]
+#[derive(Clone, Copy, Default)]
 pub struct Begun {
     pub answer: u64,
     pub line: Line,
@@ -39,12 +39,7 @@ pub struct Begun {
 pub fn no_station() -> Station
     ensures { result ≡ run.no_station }
 {
-    Station {
-        round: 0,
-        reading: Reading(0),
-        signed: 0,
-        gathered: 0,
-    }
+    Station::default()
 }
 
 // Each station in its place, in round 0 at its first reading, nothing signed.
@@ -53,15 +48,11 @@ fn seat(first: &[u64]) -> [Station; 12]
     ensures { result ≡ begin.seated_to first.now (length first.now) }
 {
     let mut table = [no_station(); 12];
-    let mut i: usize = 0;
-    while i < first.len() {
+    for (i, &x) in first.iter().enumerate() {
         table[i] = Station {
-            round: 0,
-            reading: Reading(first[i]),
-            signed: 0,
-            gathered: 0,
+            reading: Reading(x),
+            ..no_station()
         };
-        i += 1;
     }
     table
 }
@@ -73,36 +64,18 @@ pub fn fresh(plan: Plan, first: &[u64]) -> Begun
 {
     let answer = setup::answer(plan, first);
     if answer != 0 {
-        let table = [no_station(); 12];
         return Begun {
-            answer: answer,
-            line: Line {
-                plan: Plan {
-                    stations: 0,
-                    faults: 0,
-                    drift: 0,
-                    bound: 0,
-                    spread: 0,
-                    step: 0,
-                    period: 0,
-                    faulty: 0,
-                },
-                time: Moment(0),
-                length: 0,
-                stations: table,
-                count: 0,
-            },
+            answer,
+            line: Line::default(),
         };
     }
-    let table = seat(first);
     Begun {
         answer: 0,
         line: Line {
-            plan: plan,
-            time: Moment(0),
+            plan,
             length: plan.stations,
-            stations: table,
-            count: 0,
+            stations: seat(first),
+            ..Line::default()
         },
     }
 }
@@ -111,19 +84,12 @@ pub fn fresh(plan: Plan, first: &[u64]) -> Begun
 
 // A station of the run; one with nothing in it past the last.
 fn station_at(l: Line, i: u64) -> Station
-    requires { l.plan.stations ≤ 12 }
     ensures { result ≡ held.place_of l.plan.stations l.stations i }
 {
-    let stations = l.stations;
     if i >= l.plan.stations {
-        return Station {
-            round: 0,
-            reading: Reading(0),
-            signed: 0,
-            gathered: 0,
-        };
+        return no_station();
     }
-    stations[i as usize]
+    l.stations.get(i as usize).copied().unwrap_or(no_station())
 }
 
 // A station of any record's run; one with nothing in it where the line has more than twelve.
@@ -147,7 +113,7 @@ pub fn sound(plan: Plan, i: u64) -> bool
 fn bad_faulty(s: Station) -> bool
     ensures { result ≡ rule.bad_faulty s }
 {
-    (s.round != 0) | (s.reading.0 != 0) | (s.signed != 0) | (s.gathered != 0)
+    s != no_station()
 }
 
 // The answer to a question about a station: 0 with its reading and round, or the number that refuses it.
@@ -189,13 +155,7 @@ fn some_bad_station(l: Line) -> bool
     requires { Planned l.plan }
     ensures { result ≡ rule.some_station (rule.bad_station_at (held.run_of l [])) l.plan.stations }
 {
-    let mut bad = false;
-    let mut i: u64 = 0;
-    while i < l.plan.stations {
-        bad = bad | bad_station_at(l, i);
-        i += 1;
-    }
-    bad
+    (0..l.plan.stations).any(|i| bad_station_at(l, i))
 }
 
 // Whether a message's round, kind or mask of signers breaks its rule.
@@ -220,7 +180,6 @@ fn bad_way(l: Line, m: Message) -> bool
 
 // Whether a ready's round is above its sender's last signed, or a relay's above its sender's own.
 fn bad_round(l: Line, m: Message) -> bool
-    requires { l.plan.stations ≤ 12 }
     ensures { result ≡ rule.bad_round (held.run_of l []) m }
 {
     let s = station_at(l, m.sender);
@@ -232,7 +191,6 @@ fn bad_round(l: Line, m: Message) -> bool
 
 // Whether a message in flight breaks a rule.
 fn bad_message(l: Line, m: Message) -> bool
-    requires { l.plan.stations ≤ 12 }
     ensures { result ≡ rule.bad_message (held.run_of l []) m }
 {
     bad_content(l.plan, m) | bad_way(l, m) | bad_round(l, m)
@@ -240,16 +198,9 @@ fn bad_message(l: Line, m: Message) -> bool
 
 // Whether some message in flight does.
 fn some_bad_message(l: Line, words: &[u64]) -> bool
-    requires { l.plan.stations ≤ 12 }
     ensures { result ≡ some_of (rule.bad_message (held.run_of l [])) (decode l.count words.now) }
 {
-    let mut bad = false;
-    let mut i: u64 = 0;
-    while i < l.count {
-        bad = bad | bad_message(l, flight::message_at(words, i));
-        i += 1;
-    }
-    bad
+    (0..l.count).any(|i| bad_message(l, flight::message_at(words, i)))
 }
 
 // 10: whether the table has another number of stations than n, the words are not for 1,024 messages, or the record breaks a
@@ -302,10 +253,9 @@ pub fn reading(l: Line, words: &[u64], i: u64) -> Shown
         };
     }
     let s = station_at(l, i);
-    let reading = s.reading;
     Shown {
         answer: 0,
-        reading: reading,
+        reading: s.reading,
         round: s.round,
     }
 }

@@ -88,11 +88,6 @@ returns-then-l-gt-MAX_FLIGHT c =
     ) in
     f ∙ line-rules a.l a.words.now
 
-pub some_bad_message-requires : goal.some_bad_message-requires
-some_bad_message-requires c = (planned _ (sym
-    c.plan_answer.ensures
-    ∙ c.if-plan_answer-ne0.false)).stations.1
-
 pub returns-then-some_bad_message : goal.returns-then-some_bad_message
 returns-then-some_bad_message c =
     let a =

@@ -6,9 +6,6 @@ use Rattle.station.specs.Record.{past_limits}
 use borrow.Author.Tests.{le-ltb}
 use Rattle.line.proofs.bad_station_at.Goals as goal
 
-pub station_at-s-requires : goal.station_at-s-requires
-station_at-s-requires c = c.requires.stations.1
-
 pub returns-then-has : goal.returns-then-has
 unfolding bad_station_at run_of
 returns-then-has c = rw (sym c.has.ensures ∙ c.if-has.true) (c.bad_faulty.ensures ∙ ap bad_faulty

@@ -5,7 +5,6 @@ use native.Mathlib.Omega.{arith}
 use mir.Syntax.{w64}
 use mir.Val.{to_z, of_z}
 use Rattle.line.specs.Held.{run_of}
-use Rattle.line.specs.HeldLaws.{line-planned}
 use Rattle.line.specs.Question.{lead_answer, led-no, led-yes}
 use borrow.Author.Rules.{rules}
 use Rattle.line.proofs.lead.Goals as goal
@@ -23,14 +22,6 @@ returns-then-sound c = led-no _ _ _ _ 31 (rw (
   ← c.sound-2.ensures,
   c.if-sound.true,
 )) (λ z. omega arith)
-
-pub station_at-x-requires : goal.station_at-x-requires
-station_at-x-requires c = (line-planned _ _ (sym c.bad_line.ensures
-    ∙ c.if-bad_line.false)).stations.1
-
-pub station_at-y-requires : goal.station_at-y-requires
-station_at-y-requires c = (line-planned _ _ (sym c.bad_line.ensures
-    ∙ c.if-bad_line.false)).stations.1
 
 pub returns-then-x-y : goal.returns-then-x-y
 unfolding lead_answer run_of

@@ -2,7 +2,6 @@
 use mathlib.Core.Path.{sym, ◌∙◌}
 use native.Mathlib.Omega.{arith}
 use Rattle.line.specs.Held.{run_of}
-use Rattle.line.specs.HeldLaws.{line-planned}
 use Rattle.line.specs.Question.{show_answer, shown-no, shown-yes}
 use Rattle.line.proofs.reading.Goals as goal
 
@@ -18,10 +17,6 @@ returns-then-not-sound c = shown-no _ _ _ 31 (rw (
   (sym c.sound.ensures ∙ c.if-not-sound.true),
 ))
     (λ z. omega arith)
-
-pub station_at-s-requires : goal.station_at-s-requires
-station_at-s-requires c = (line-planned _ _ (sym c.bad_line.ensures
-    ∙ c.if-bad_line.false)).stations.1
 
 pub returns : goal.returns
 unfolding show_answer run_of

@@ -1,36 +1,15 @@
--- `line::some_bad_message` says whether some message is bad: after i turns `bad` says it of the first i. The measure is how
--- many are left. Assumes nothing.
-use mathlib.Core.Path.{◌≡◌, refl, ap, ◌∙◌}
-use Prim.Native.Nat.{ℕ}
-use Rattle.flight.specs.Message.{decode, some_of}
+-- `line::some_bad_message` says whether some message is bad: `any` asks `bad_message` of each. Assumes nothing.
+use Rattle.std.proofs.Common.{ℕ, ◌∙◌, refl, arith, rules, tests, []}
+use Rattle.std.proofs.lemmas.Iterator.{YieldsList-from_range}
+use Rattle.std.proofs.lemmas.Iterator.Search.{any_from_yields_List}
+use Rattle.flight.specs.Message.{message_at}
 use Rattle.model.specs.Record.{bad_message}
 use Rattle.line.specs.Held.{run_of}
-use Rattle.line.specs.HeldLaws.{messages-more}
-use mathlib.Core.List.{[]}
-use native.Mathlib.Omega.{arith}
+use Rattle.line.specs.HeldLaws.{any-some_of}
 use Rattle.line.proofs.some_bad_message.Goals as goal
 
-pub loop-i-init : goal.loop-i-init
-unfolding decode some_of
-loop-i-init c = (omega arith, refl)
-
-pub bad_message-bad-requires : goal.bad_message-bad-requires
-bad_message-bad-requires c = c.requires
-
-pub overflow_add-i : goal.overflow_add-i
-overflow_add-i c = omega arith
-
-pub loop-i-smaller : goal.loop-i-smaller
-loop-i-smaller c = omega arith
-
-pub loop-i-preserved : goal.loop-i-preserved
-loop-i-preserved c = (
-  omega arith,
-  messages-more _ _ _ c.loop-i.invariant.1
-      (c.bad_message-bad.ensures ∙ ap (bad_message _) c.message_at.ensures),
-)
-
 pub returns : goal.returns
-returns c = let s : c.loop-i.i ≡ c.args.l.count =
-    omega arith in c.loop-i.invariant.1 ∙ ap (λ (k : ℕ). some_of (bad_message (run_of
-    c.args.l [])) (decode k c.args.words.now)) s
+returns c =
+    any_from_yields_List (λ (i : ℕ). bad_message (run_of c.args.l []) (message_at c.args.words.now i)) _ _ _ c.any.ensures.ran
+    (YieldsList-from_range 0 c.args.l.count c.args.l.count refl (omega arith)) (λ x b q k. search (rules, tests))
+    ∙ any-some_of _ _ _
