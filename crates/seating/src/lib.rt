@@ -35,23 +35,21 @@ pub struct Answered {
 pub fn take(table: &[Station], i: usize) -> Station
     ensures { result ≡ get_or table.now i no_station }
 {
-    if i < table.len() {
-        return table[i];
-    }
-    line::no_station()
+    table.get(i).copied().unwrap_or(line::no_station())
 }
 
 // The station is put into place i; past the end, nowhere.
 pub fn put(table: &mut [Station], i: usize, s: Station)
     ensures { table.new ≡ set table.old i s }
 {
-    if i >= table.len() {
-        return;
+    // Tried by `get_mut`: the table behind its reference has no name that a proof may cite.
+    if i < table.len() {
+        table[i] = s;
     }
-    table[i] = s;
 }
 
-// What a board does: it hears signatures of a round, or its clock goes on.
+// What a board does: it hears signatures of a round, or its clock goes on. No closure: the statements in specs/ (`stepped`,
+// `step-refused`) speak of it as a value.
 #[derive(Clone, Copy)]
 pub enum Act {
     Hear { round: u64, signers: u64 },
@@ -79,7 +77,7 @@ fn refused(answer: u64, s: Station) -> Board
     ensures { result ≡ seats.refused answer s }
 {
     Board {
-        answer: answer,
+        answer,
         outcome: Outcome {
             station: s,
             ready: false,
@@ -88,91 +86,32 @@ fn refused(answer: u64, s: Station) -> Board
     }
 }
 
-// The station then.
-fn station_of(board: Board) -> Station
-    ensures { result ≡ board.outcome.station }
-{
-    let outcome = board.outcome;
-    outcome.station
-}
-
 // A station of the table does this: it is taken out, steps by value, and is put back. No other station is touched.
 pub fn step(plan: Plan, table: &mut [Station], i: usize, act: Act) -> Board
     ensures { (result ≡ seats.stepped plan table.old i act)
         × (table.new ≡ seats.stepped_table plan table.old i act) }
 {
     let board = done(plan, table.len(), i, act, take(table, i));
-    put(table, i, station_of(board));
+    put(table, i, board.outcome.station);
     board
 }
 
 // ---- all of them
 
-// A record of twelve places with nothing in them, for a table of so many stations.
-fn cleared(rest: Rest, many: usize) -> Line
-    ensures { result ≡ seats.seated_in rest many no_stations }
-{
-    let plan = rest.plan;
-    let time = rest.time;
-    let stations = [line::no_station(); 12];
-    Line {
-        plan: plan,
-        time: time,
-        length: many as u64,
-        stations: stations,
-        count: rest.count,
-    }
-}
-
-// The station takes place i of the record.
-fn seated(l: Line, i: usize, s: Station) -> Line
-    requires { i < 12 }
-    ensures { result ≡ seats.with_station l i s }
-{
-    let mut stations = l.stations;
-    stations[i] = s;
-    let mut next = l;
-    next.stations = stations;
-    next
-}
-
 // The run with its stations taken out of the table, by value.
 pub fn load(rest: Rest, table: &[Station]) -> Line
     ensures { result ≡ seats.line_of rest table.now }
 {
-    let mut line = cleared(rest, table.len());
-    let mut i: usize = 0;
-    while i < 12 {
-        line = seated(line, i, take(table, i));
-        i += 1;
+    let mut stations = [line::no_station(); 12];
+    for i in 0..12 {
+        stations[i] = take(table, i);
     }
-    line
-}
-
-// The station in place i of what an event came to.
-fn seat_of(played: Played, i: usize) -> Station
-    requires { i < 12 }
-    ensures { result ≡ get_or played.line.stations i no_station }
-{
-    let line = played.line;
-    let stations = line.stations;
-    stations[i]
-}
-
-// The answer, and what the run has beside its table.
-fn answer_of(played: Played) -> Answered
-    ensures { result ≡ seats.answered_of played }
-{
-    let line = played.line;
-    let plan = line.plan;
-    let time = line.time;
-    Answered {
-        answer: played.answer,
-        rest: Rest {
-            plan: plan,
-            time: time,
-            count: line.count,
-        },
+    Line {
+        plan: rest.plan,
+        time: rest.time,
+        length: table.len() as u64,
+        stations,
+        count: rest.count,
     }
 }
 
@@ -181,10 +120,15 @@ pub fn store(table: &mut [Station], played: Played) -> Answered
     ensures { (result ≡ seats.answered_of played)
         × (table.new ≡ placed_to table.old played.line.stations 12) }
 {
-    let mut i: usize = 0;
-    while i < 12 {
-        put(table, i, seat_of(played, i));
-        i += 1;
+    for (i, &s) in played.line.stations.iter().enumerate() {
+        put(table, i, s);
     }
-    answer_of(played)
+    Answered {
+        answer: played.answer,
+        rest: Rest {
+            plan: played.line.plan,
+            time: played.line.time,
+            count: played.line.count,
+        },
+    }
 }

@@ -1,19 +1,21 @@
 -- One station more is taken out.
-use Rattle.std.proofs.Common.{arith, ap, ◌∙◌}
-use Rattle.line.specs.declared.Line.{Line}
-use Rattle.seating.specs.Seating.{line_to, with_station, line-none, line-more}
+use Rattle.std.proofs.Common.{ap, refl, ◌∙◌, replicate, arith, ◌≡◌}
+use Rattle.station.specs.declared.Station.{Station}
+use Rattle.line.specs.Fresh.{no_stations}
+use Rattle.run.specs.Play.{placed_to}
+use Rattle.seating.specs.Seating.{placed-none, placed-more, line_to, seated_in}
 use Rattle.seating.proofs.load.Goals as goal
 
 pub loop-i-init : goal.loop-i-init
 loop-i-init c =
-    record { taken = c.cleared-line.ensures ∙ line-none c.args.rest c.args.table.now; few = omega arith }
+    ap (λ (s : Station). replicate 12 s) c.no_station-stations.ensures ∙ placed-none no_stations c.args.table.now
 
 pub loop-i-preserved : goal.loop-i-preserved
 loop-i-preserved c =
-    record {
-      taken =
-          c.seated-line.ensures ∙ ap (λ (l : Line). with_station l c.loop-i.i c.take.result) c.loop-i.invariant.taken
-          ∙ ap (with_station (line_to c.args.rest c.args.table.now c.loop-i.i) c.loop-i.i) c.take.ensures
-          ∙ line-more c.args.rest c.args.table.now c.loop-i.i;
-      few = omega arith;
-    }
+    placed-more no_stations c.args.table.now c.loop-i.i (rw c.loop-i.invariant refl) c.take.ensures
+
+pub returns : goal.returns
+unfolding line_to
+returns c =
+    let twelve : c.loop-i.i ≡ 12 = omega arith in
+    ap (seated_in c.args.rest _) (c.loop-i.invariant ∙ ap (placed_to no_stations c.args.table.now) twelve)

@@ -1,14 +1,17 @@
 -- One station more is put back.
-use Rattle.std.proofs.Common.{arith}
+use Rattle.std.proofs.Common.{ap, ◌∙◌, arith, refl, ◌≡◌}
+use Rattle.run.specs.Play.{placed_to}
 use Rattle.seating.specs.Seating.{placed-none, placed-more}
 use Rattle.seating.proofs.store.Goals as goal
 
 pub loop-i-init : goal.loop-i-init
-loop-i-init c = record { put_back = placed-none c.args.table.now c.args.played.line.stations; few = omega arith }
+loop-i-init c = placed-none c.args.table.now c.args.played.line.stations
 
 pub loop-i-preserved : goal.loop-i-preserved
 loop-i-preserved c =
-    record {
-      put_back = placed-more c.args.table.now c.args.played.line.stations c.loop-i.i (rw c.loop-i.invariant.put_back at c.put.ensures) c.seat_of.ensures;
-      few = omega arith;
-    }
+    placed-more c.args.table.now c.args.played.line.stations c.loop-i.i (rw c.loop-i.invariant at c.put.ensures) refl
+
+pub returns : goal.returns
+returns c =
+    let twelve : c.loop-i.i ≡ 12 = omega arith in
+    (refl, c.loop-i.invariant ∙ ap (placed_to c.args.table.now c.args.played.line.stations) twelve)
