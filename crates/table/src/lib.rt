@@ -22,7 +22,7 @@ fn starting(plan: Plan) -> Rest
     ensures { result ≡ lent.starting plan }
 {
     Rest {
-        plan: plan,
+        plan,
         time: Moment(0),
         count: 0,
     }
@@ -32,22 +32,11 @@ fn starting(plan: Plan) -> Rest
 fn no_run(l: Line) -> Line
     ensures { result ≡ middle.no_run l }
 {
-    let stations = l.stations;
     Line {
-        plan: Plan {
-            stations: 0,
-            faults: 0,
-            drift: 0,
-            bound: 0,
-            spread: 0,
-            step: 0,
-            period: 0,
-            faulty: 0,
-        },
+        plan: Plan::default(),
         time: Moment(0),
-        length: l.length,
-        stations: stations,
         count: 0,
+        ..l
     }
 }
 
@@ -68,10 +57,9 @@ fn begin(held: Line, first: &[u64]) -> Played
             line: no_run(held),
         };
     }
-    let line = begun.line;
     Played {
         answer: 0,
-        line: line,
+        line: begun.line,
     }
 }
 
@@ -107,7 +95,8 @@ pub fn play(
 
 // ---- a question
 
-// What may be asked: the reading and round of a station, the lead of one over another, the number in flight.
+// What may be asked: the reading and round of a station, the lead of one over another, the number in flight. No closure: the
+// statements in specs/ (`question_answer`, `told`) speak of it as a value.
 #[derive(Clone, Copy)]
 pub enum Question {
     Reading(u64),
@@ -161,31 +150,16 @@ pub struct Turned {
 fn lent_places(seats: Seats) -> usize
     ensures { result ≡ lent.many seats }
 {
-    let length = seats.length;
-    if length > 12 {
-        return 12;
-    }
-    length
+    seats.length.min(12)
 }
 
-// The places by themselves, and put together again with the answer.
-fn places(seats: Seats) -> [Station; 12]
-    ensures { result ≡ seats.places }
+// The places behind an answer, put together with it.
+fn turn(answered: Answered, seats: Seats, places: [Station; 12]) -> Turned
+    ensures { result ≡ lent.turn answered seats places }
 {
-    let places = seats.places;
-    places
-}
-
-fn turn(answered: Answered, seats: Seats, after: [Station; 12]) -> Turned
-    ensures { result ≡ lent.turn answered seats after }
-{
-    let length = seats.length;
     Turned {
-        answered: answered,
-        seats: Seats {
-            length: length,
-            places: after,
-        },
+        answered,
+        seats: Seats { places, ..seats },
     }
 }
 
@@ -194,7 +168,7 @@ pub fn fresh_on(seats: Seats, plan: Plan, first: &[u64]) -> Turned
     ensures { result ≡ lent.begun_on seats plan first.now }
 {
     let many = lent_places(seats);
-    let mut after = places(seats);
+    let mut after = seats.places;
     let answered = fresh(plan, first, &mut after[..many]);
     turn(answered, seats, after)
 }
@@ -211,7 +185,7 @@ pub fn play_on(
         × (words.new ≡ lent.played_words rest (lent.lent_of seats) words.old event increments.now) }
 {
     let many = lent_places(seats);
-    let mut after = places(seats);
+    let mut after = seats.places;
     let answered = play(rest, &mut after[..many], words, event, increments);
     turn(answered, seats, after)
 }

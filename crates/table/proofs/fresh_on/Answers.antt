@@ -7,11 +7,9 @@ use Rattle.table.proofs.fresh_on.Goals as goal
 pub slice_bounds-after-end : goal.slice_bounds-after-end
 slice_bounds-after-end c =
     let few = many-few c.args.seats in
-    let twelve = c.places-after.type_inv in
     omega (arith, c.lent_places-many.ensures)
 
 pub slice_bounds-fresh-end : goal.slice_bounds-fresh-end
 slice_bounds-fresh-end c =
     let few = many-few c.args.seats in
-    let twelve = c.places-after.type_inv in
-    sym (length-take-le c.lent_places-many.result c.places-after.result (omega (arith, c.lent_places-many.ensures)))
+    sym (length-take-le c.lent_places-many.result c.args.seats.places (omega (arith, c.lent_places-many.ensures)))

@@ -1,9 +1,15 @@
 -- `lent_places` are no more than there are.
-use Rattle.table.specs.Table.{many-all, many-some}
+use Rattle.std.proofs.Common.{◌≡◌, ◌∙◌, arith, min}
+use Rattle.std.proofs.Math.Decide.{dec_lt}
+use Rattle.table.specs.declared.Seats.{Seats}
+use Rattle.table.specs.Table.{many, many-all, many-some}
 use Rattle.table.proofs.lent_places.Goals as goal
 
-pub returns-then-length-gt12 : goal.returns-then-length-gt12
-returns-then-length-gt12 c = many-all _ c.if-length-gt12.true
+many-min : (seats : Seats) → min seats.length 12 ≡ many seats
+many-min seats = elim (dec_lt 12 seats.length) [
+  | yes h ↦ omega arith ∙ many-all seats h
+  | no h ↦ omega arith ∙ many-some seats (omega arith)
+]
 
 pub returns : goal.returns
-returns c = many-some _ c.if-length-gt12.false
+returns c = c.min.ensures ∙ many-min c.args.seats
