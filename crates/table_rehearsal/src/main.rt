@@ -11,98 +11,54 @@ use table::{Seats, Turned};
 
 // The run as its line shows it.
 fn line_of(rest: Rest, seats: Seats) -> Line {
-    let plan = rest.plan;
-    let time = rest.time;
     let stations = seats.places;
     Line {
-        plan: plan,
-        time: time,
+        plan: rest.plan,
+        time: rest.time,
         length: seats.length as u64,
-        stations: stations,
+        stations,
         count: rest.count,
     }
-}
-
-// Event number, answer and the first `long` bytes of the end of its line.
-fn show_line(rt: &impl Print, number: u64, answer: u64, end: &[u8], long: usize) -> Result<()> {
-    if long <= end.len() {
-        let mut out = [0u8; 320];
-        let count = text::event_line(number, answer, &end[..long], &mut out, 0);
-        paper::print(rt, &out, count)?;
-    }
-    Ok(())
 }
 
 // Event number, answer, real time and the round of each station.
 fn show(rt: &impl Print, number: u64, turned: Turned) -> Result<()> {
     let mut end = [0u8; 320];
+    let mut out = [0u8; 320];
     let answered = turned.answered;
-    let rest = answered.rest;
-    let seats = turned.seats;
-    let long = text::line_end(line_of(rest, seats), &mut end);
-    show_line(rt, number, answered.answer, &end, long)
+    let long = text::line_end(line_of(answered.rest, turned.seats), &mut end);
+    let Some(end) = end.get(..long) else {
+        return Ok(());
+    };
+    let count = text::event_line(number, answered.answer, end, &mut out, 0);
+    paper::print(rt, &out, count)
 }
 
-// An event on the table, and its line.
-fn play(
-    rt: &impl Print,
-    number: u64,
-    before: Turned,
-    words: &mut [u64],
-    event: Event,
-    increments: &[u64],
-) -> Result<Turned> {
-    let answered = before.answered;
-    let rest = answered.rest;
-    let seats = before.seats;
-    let after = table::play_on(seats, rest, words, event, increments);
-    show(rt, number, after)?;
-    Ok(after)
+// An event on the table; in an advance the clocks of the two sound stations go on by d.
+fn play(before: Turned, words: &mut [u64], event: Event) -> Turned {
+    let rest = before.answered.rest;
+    match event {
+        Event::Advance(d) => table::play_on(before.seats, rest, words, event, &[d, d, 0]),
+        _ => table::play_on(before.seats, rest, words, event, &[]),
+    }
 }
 
-// Advance by d with one increment for the two sound stations.
-fn advance(
-    rt: &impl Print,
-    number: u64,
-    before: Turned,
-    words: &mut [u64],
-    d: u64,
-) -> Result<Turned> {
-    let increments = [d, d, 0];
-    play(rt, number, before, words, Event::Advance(d), &increments)
-}
-
-fn deliver(
-    rt: &impl Print,
-    number: u64,
-    before: Turned,
-    words: &mut [u64],
-    kind: u64,
-) -> Result<Turned> {
-    let event = Event::Deliver {
+fn deliver(kind: u64) -> Event {
+    Event::Deliver {
         sender: 1,
         recipient: 0,
         round: 1,
-        kind: kind,
-    };
-    play(rt, number, before, words, event, &[0u64; 0])
+        kind,
+    }
 }
 
-fn send(
-    rt: &impl Print,
-    number: u64,
-    before: Turned,
-    words: &mut [u64],
-    recipient: u64,
-    signers: u64,
-) -> Result<Turned> {
-    let event = Event::Send {
+fn send(recipient: u64, signers: u64) -> Event {
+    Event::Send {
         sender: 2,
-        recipient: recipient,
+        recipient,
         round: 1,
-        signers: signers,
-    };
-    play(rt, number, before, words, event, &[0u64; 0])
+        signers,
+    }
 }
 
 fn main(rt: HostRuntime) -> Result<()> {
@@ -116,25 +72,25 @@ fn main(rt: HostRuntime) -> Result<()> {
         period: 7,
         faulty: 4,
     };
-    let first = [4u64, 5, 0];
+    let events = [
+        Event::Advance(2),
+        Event::Advance(3),
+        send(0, 1),
+        send(1, 4),
+        deliver(1),
+        Event::Advance(3),
+        deliver(0),
+        Event::Advance(1),
+    ];
     let places = [line::no_station(); 12];
-    let seats = Seats {
-        length: 3,
-        places: places,
-    };
-    let begun = table::fresh_on(seats, plan, &first);
-    let answered = begun.answered;
+    let mut turned = table::fresh_on(Seats { length: 3, places }, plan, &[4, 5, 0]);
     let mut out = [0u8; 320];
-    let count = text::setup_line(answered.answer, &mut out, 0);
+    let count = text::setup_line(turned.answered.answer, &mut out, 0);
     paper::print(&rt, &out, count)?;
     let mut words = [0u64; 3072];
-    let one = advance(&rt, 1, begun, &mut words, 2)?;
-    let two = advance(&rt, 2, one, &mut words, 3)?;
-    let three = send(&rt, 3, two, &mut words, 0, 1)?;
-    let four = send(&rt, 4, three, &mut words, 1, 4)?;
-    let five = deliver(&rt, 5, four, &mut words, 1)?;
-    let six = advance(&rt, 6, five, &mut words, 3)?;
-    let seven = deliver(&rt, 7, six, &mut words, 0)?;
-    advance(&rt, 8, seven, &mut words, 1)?;
+    for (i, &event) in events.iter().enumerate() {
+        turned = play(turned, &mut words, event);
+        show(&rt, i as u64 + 1, turned)?;
+    }
     Ok(())
 }
