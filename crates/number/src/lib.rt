@@ -59,7 +59,9 @@ fn read_long(bytes: &[u8], at: usize) -> Number
     tenth(bytes, place, weight, sum)
 }
 
-// The number at a place of the bytes: read whole, or the reading stops. Most numbers of a script are one byte.
+// The number at a place of the bytes: read whole, or the reading stops. Most numbers of a script are one byte: these are read
+// where they are asked for, without a call.
+#[inline(always)]
 pub fn read_number(bytes: &[u8], at: usize) -> Number
     ensures { result ≡ form.read_number bytes.now at }
 {
