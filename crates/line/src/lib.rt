@@ -17,6 +17,7 @@ use setup::Plan;
 use station::Station;
 
 // A run: its plan, its time, the stations in the first `length` places of the table, and how many messages are in flight.
+// The memory is fixed, and 10 asks of the table's length: so the length stands beside a table of twelve.
 #[derive(Clone, Copy, Default)]
 pub struct Line {
     pub plan: Plan,

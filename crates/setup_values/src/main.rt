@@ -23,6 +23,15 @@ fn line(rt: &impl Print, what: &str, answer: u64) -> Result<()> {
     println!(rt; "{what}: {answer}")
 }
 
+// The base with a change.
+fn with<F: Fn(&mut Plan)>(change: F) -> Plan
+    requires { F.IsAlwaysCallable change }
+{
+    let mut plan = base();
+    change(&mut plan);
+    plan
+}
+
 // A plan for four stations, each first reading 4,202.
 fn four(plan: Plan) -> u64 {
     setup::answer(plan, &[4_202; 4])
@@ -31,19 +40,16 @@ fn four(plan: Plan) -> u64 {
 // The rules of the plan, at the values that document 01 gives.
 fn rules(rt: &impl Print) -> Result<()> {
     line(rt, "base", four(base()))?;
-    let mut plan = base();
-    plan.spread = 2_200;
-    line(rt, "D 2200", four(plan))?;
-    plan.step = 4_200;
-    line(rt, "D 2200, A 4200", four(plan))?;
-    plan = base();
-    plan.step = 4_201;
-    line(rt, "A 4201", four(plan))?;
-    plan = base();
-    plan.period = 6_203;
-    line(rt, "P 6203", four(plan))?;
-    plan.period = 6_202;
-    line(rt, "P 6202", four(plan))?;
+    let narrow = with(|p| p.spread = 2_200);
+    line(rt, "D 2200", four(narrow))?;
+    let both = Plan {
+        step: 4_200,
+        ..narrow
+    };
+    line(rt, "D 2200, A 4200", four(both))?;
+    line(rt, "A 4201", four(with(|p| p.step = 4_201)))?;
+    line(rt, "P 6203", four(with(|p| p.period = 6_203)))?;
+    line(rt, "P 6202", four(with(|p| p.period = 6_202)))?;
     Ok(())
 }
 
@@ -59,119 +65,114 @@ fn readings(rt: &impl Print) -> Result<()> {
         "first reading 6203",
         setup::answer(base(), &[4_202, 4_202, 4_202, 6_203]),
     )?;
-    let mut plan = base();
-    plan.stations = 12;
-    line(rt, "n 12", setup::answer(plan, &[4_202; 12]))?;
+    let twelve = with(|p| p.stations = 12);
+    line(rt, "n 12", setup::answer(twelve, &[4_202; 12]))?;
     line(
         rt,
         "n 12, eleven readings",
-        setup::answer(plan, &[4_202; 11]),
+        setup::answer(twelve, &[4_202; 11]),
     )?;
     line(
         rt,
         "n 12, thirteen readings",
-        setup::answer(plan, &[4_202; 13]),
+        setup::answer(twelve, &[4_202; 13]),
     )?;
     line(rt, "no readings", setup::answer(base(), &[4_202; 0]))?;
-    plan = base();
-    plan.faulty = 8;
+    let faulty = with(|p| p.faulty = 8);
     line(
         rt,
         "station 3 faulty, reading 0",
-        setup::answer(plan, &[4_202, 4_202, 4_202, 0]),
+        setup::answer(faulty, &[4_202, 4_202, 4_202, 0]),
     )?;
     line(
         rt,
         "station 3 faulty, reading 4202",
-        setup::answer(plan, &[4_202; 4]),
+        setup::answer(faulty, &[4_202; 4]),
     )?;
     Ok(())
 }
 
 // Stations, tolerated faults and faulty marks.
 fn stations(rt: &impl Print) -> Result<()> {
-    let mut plan = base();
-    plan.stations = 0;
-    line(rt, "n 0", setup::answer(plan, &[4_202; 0]))?;
-    plan.stations = 13;
-    line(rt, "n 13", setup::answer(plan, &[4_202; 13]))?;
-    plan.stations = 2;
-    line(rt, "n 2, f 1", setup::answer(plan, &[4_202; 2]))?;
-    plan.stations = 1;
-    plan.faults = 0;
-    line(rt, "n 1, f 0", setup::answer(plan, &[4_202; 1]))?;
-    plan = base();
-    plan.faults = 9_223_372_036_854_775_808;
-    line(rt, "f 2^63", four(plan))?;
-    plan.faults = 18_446_744_073_709_551_615;
-    line(rt, "f 2^64 - 1", four(plan))?;
-    plan = base();
-    plan.faulty = 9_223_372_036_854_775_808;
-    line(rt, "mark 63", four(plan))?;
-    plan.faulty = 16;
-    line(rt, "mark 4", four(plan))?;
-    plan.faulty = 3;
-    line(rt, "marks 0 and 1", four(plan))?;
+    let none = with(|p| p.stations = 0);
+    line(rt, "n 0", setup::answer(none, &[4_202; 0]))?;
+    let many = with(|p| p.stations = 13);
+    line(rt, "n 13", setup::answer(many, &[4_202; 13]))?;
+    let two = with(|p| p.stations = 2);
+    line(rt, "n 2, f 1", setup::answer(two, &[4_202; 2]))?;
+    let alone = Plan {
+        stations: 1,
+        faults: 0,
+        ..base()
+    };
+    line(rt, "n 1, f 0", setup::answer(alone, &[4_202; 1]))?;
+    line(rt, "f 2^63", four(with(|p| p.faults = 1 << 63)))?;
+    line(rt, "f 2^64 - 1", four(with(|p| p.faults = u64::MAX)))?;
+    line(rt, "mark 63", four(with(|p| p.faulty = 1 << 63)))?;
+    line(rt, "mark 4", four(with(|p| p.faulty = 16)))?;
+    line(rt, "marks 0 and 1", four(with(|p| p.faulty = 3)))?;
     Ok(())
 }
 
 // Just past each limit.
 fn past(rt: &impl Print) -> Result<()> {
-    let mut plan = base();
-    plan.drift = 101;
-    line(rt, "r 101", four(plan))?;
-    plan = base();
-    plan.bound = 0;
-    line(rt, "T 0", four(plan))?;
-    plan.bound = 1_000_001;
-    line(rt, "T 1000001", four(plan))?;
-    plan = base();
-    plan.spread = 0;
-    line(rt, "D 0", four(plan))?;
-    plan.spread = 1_000_001;
-    line(rt, "D 1000001", four(plan))?;
-    plan = base();
-    plan.step = 0;
-    line(rt, "A 0", four(plan))?;
-    plan.step = 10_000_001;
-    line(rt, "A 10000001", four(plan))?;
-    plan = base();
-    plan.period = 0;
-    line(rt, "P 0", four(plan))?;
-    plan.period = 100_000_001;
-    line(rt, "P 100000001", four(plan))?;
+    line(rt, "r 101", four(with(|p| p.drift = 101)))?;
+    line(rt, "T 0", four(with(|p| p.bound = 0)))?;
+    line(rt, "T 1000001", four(with(|p| p.bound = 1_000_001)))?;
+    line(rt, "D 0", four(with(|p| p.spread = 0)))?;
+    line(rt, "D 1000001", four(with(|p| p.spread = 1_000_001)))?;
+    line(rt, "A 0", four(with(|p| p.step = 0)))?;
+    line(rt, "A 10000001", four(with(|p| p.step = 10_000_001)))?;
+    line(rt, "P 0", four(with(|p| p.period = 0)))?;
+    line(rt, "P 100000001", four(with(|p| p.period = 100_000_001)))?;
     Ok(())
 }
 
 // At the limits: the largest numbers, the smallest that pass, and one less.
 fn limits(rt: &impl Print) -> Result<()> {
-    let mut plan = base();
-    plan.drift = 0;
-    plan.bound = 1_000_000;
-    plan.spread = 1_000_000;
-    plan.step = 10_000_000;
-    plan.period = 100_000_000;
+    let largest = Plan {
+        drift: 0,
+        bound: 1_000_000,
+        spread: 1_000_000,
+        step: 10_000_000,
+        period: 100_000_000,
+        ..base()
+    };
     line(
         rt,
         "r 0, T, D, A, P largest",
-        setup::answer(plan, &[11_000_000; 4]),
+        setup::answer(largest, &[11_000_000; 4]),
     )?;
-    plan.drift = 100;
+    let drifting = Plan {
+        drift: 100,
+        ..largest
+    };
     line(
         rt,
         "r, T, D, A, P largest",
-        setup::answer(plan, &[11_000_000; 4]),
+        setup::answer(drifting, &[11_000_000; 4]),
     )?;
-    plan.drift = 0;
-    plan.bound = 1;
-    plan.spread = 1;
-    plan.step = 2;
-    plan.period = 4;
-    line(rt, "r 0, T 1, D 1, A 2, P 4", setup::answer(plan, &[3; 4]))?;
-    plan.period = 3;
-    line(rt, "r 0, T 1, D 1, A 2, P 3", setup::answer(plan, &[3; 4]))?;
-    plan.step = 1;
-    line(rt, "r 0, T 1, D 1, A 1, P 3", setup::answer(plan, &[2; 4]))?;
+    let least = Plan {
+        drift: 0,
+        bound: 1,
+        spread: 1,
+        step: 2,
+        period: 4,
+        ..base()
+    };
+    line(rt, "r 0, T 1, D 1, A 2, P 4", setup::answer(least, &[3; 4]))?;
+    let sooner = Plan { period: 3, ..least };
+    line(
+        rt,
+        "r 0, T 1, D 1, A 2, P 3",
+        setup::answer(sooner, &[3; 4]),
+    )?;
+    let shorter = Plan { step: 1, ..sooner };
+    line(
+        rt,
+        "r 0, T 1, D 1, A 1, P 3",
+        setup::answer(shorter, &[2; 4]),
+    )?;
     Ok(())
 }
 
