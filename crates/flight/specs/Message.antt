@@ -1,11 +1,10 @@
 -- The messages on their way. A flight is a list of messages; the words that hold it are a coding of that list, three words to
 -- a message: the packed names, the signers, the time sent. Each word is the code of exactly one thing.
-use Rattle.std.specs.Prelude.{ℕ, zero, suc, ◌+◌, ◌*◌, ◌-◌, ◌/◌, ◌%◌, ◌^◌, ◌<◌, Bool, false, ◌&&◌, ◌||◌, List, [], ◌∷◌, ◌++◌, ltb, leb, eqb, length, get_or, take, drop, set}
+use Rattle.std.specs.Prelude.{ℕ, zero, suc, ◌+◌, ◌*◌, ◌-◌, ◌/◌, ◌%◌, ◌^◌, ◌<◌, Bool, true, false, ◌&&◌, ◌||◌, Option, None, Some, List, [], ◌∷◌, ◌++◌, ltb, leb, eqb, length, get_or, take, drop, set}
 use Rattle.clock.specs.Pick.{pick}
 use Rattle.mask.specs.Mask.{has}
 use Rattle.flight.specs.declared.Names.{Names}
 use Rattle.flight.specs.declared.Message.{Message}
-use Rattle.flight.specs.declared.Answer.{Answer}
 
 -- ---- names
 
@@ -144,8 +143,17 @@ abbrev pub after : Bool → List ℕ → List Message → List ℕ
 after ok l ms = pick ok (coded l ms) l
 
 -- whether the change was made, and how many messages there are then
+pub record Answer : Type 0 where
+  pub done : Bool
+  pub count : ℕ
+
 abbrev pub answer : Bool → ℕ → List Message → Answer
 answer ok n ms = record { done = ok; count = pick ok (length ms) n }
+
+-- as a function gives it that changes a flight of n messages: how many there are then, or none where it refuses
+abbrev pub answer_of : ℕ → Option ℕ → Answer
+answer_of n (Some k) = record { done = true; count = k }
+answer_of n None = record { done = false; count = n }
 
 -- the i-th of n messages can be taken out
 unfoldable pub can_take : ℕ → List ℕ → ℕ → Bool

@@ -31,13 +31,6 @@ pub struct Message {
     pub sent: Moment,
 }
 
-// What a change of the flight comes to: whether it was made, and how many messages there are then.
-#[derive(Clone, Copy)]
-pub struct Answer {
-    pub done: bool,
-    pub count: u64,
-}
-
 // One more than the largest round that a word holds beside the other names.
 const ROUNDS: u64 = 36_028_797_018_963_968;
 
@@ -47,7 +40,7 @@ const ROUNDS: u64 = 36_028_797_018_963_968;
 fn word(words: &[u64], at: usize) -> u64
     ensures { result ≡ get_or words.now at 0 }
 {
-    if at < words.len() { words[at] } else { 0 }
+    words.get(at).copied().unwrap_or(0)
 }
 
 // The message of three words.
@@ -111,12 +104,10 @@ fn seek(words: &[u64], count: u64, key: u64) -> u64
     requires { 3 * count ≤ length words.now }
     ensures { result ≡ flight.index_of (flight.unpacked key) (flight.decode count words.now) }
 {
-    let mut i: u64 = 0;
-    while i < count {
+    for i in 0..count {
         if words[(3 * i) as usize] == key {
             return i;
         }
-        i += 1;
     }
     count
 }
@@ -169,24 +160,22 @@ fn move_to(words: &mut [u64], from: usize, at: usize)
     put(words, at, key, signers, sent);
 }
 
-// The i-th message leaves the flight, and the last one takes its place. Refused where there is no such message.
-pub fn take_out(words: &mut [u64], count: u64, i: u64) -> Answer
-    ensures value { result ≡ flight.answer (flight.can_take count words.old i) count
+// The i-th message leaves the flight, and the last one takes its place. The answer is the number of messages then. Refused
+// where there is no such message.
+pub fn take_out(words: &mut [u64], count: u64, i: u64) -> Option<u64>
+    ensures value { flight.answer_of count result ≡ flight.answer (flight.can_take count words.old i) count
         (flight.without i (flight.decode count words.old)) }
     ensures words_after { words.new ≡ flight.after (flight.can_take count words.old i) words.old
         (flight.without i (flight.decode count words.old)) }
 {
     if count > (words.len() / 3) as u64 {
-        return Answer { done: false, count };
+        return None;
     }
     if i >= count {
-        return Answer { done: false, count };
+        return None;
     }
     move_to(words, (3 * (count - 1)) as usize, (3 * i) as usize);
-    Answer {
-        done: true,
-        count: count - 1,
-    }
+    Some(count - 1)
 }
 
 // ---- sending
@@ -219,34 +208,28 @@ fn lay(words: &mut [u64], count: u64, m: Message, to: u64) -> u64
         kind: m.kind,
     });
     let mut n = count;
-    let mut k: u64 = 0;
-    while k < MAX_STATIONS {
+    for k in 0..MAX_STATIONS {
         n = put_next(words, n, key + k, m.signers, m.sent.0, mask::has(to, k));
-        k += 1;
     }
     n
 }
 
-// The message goes to each station in the mask, stations at 12 or above aside. Refused where a word cannot hold its names
-// or where the words have no room for all of them.
-pub fn send(words: &mut [u64], count: u64, m: Message, to: u64) -> Answer
-    ensures value { result ≡ flight.answer (flight.can_send count words.old m max_stations to) count
+// The message goes to each station in the mask, stations at 12 or above aside. The answer is the number of messages then.
+// Refused where a word cannot hold its names or where the words have no room for all of them.
+pub fn send(words: &mut [u64], count: u64, m: Message, to: u64) -> Option<u64>
+    ensures value { flight.answer_of count result ≡ flight.answer (flight.can_send count words.old m max_stations to) count
         (flight.decode count words.old ++ flight.sent_to m max_stations to) }
     ensures words_after { words.new ≡ flight.after (flight.can_send count words.old m max_stations to) words.old
         (flight.decode count words.old ++ flight.sent_to m max_stations to) }
 {
     if !packs(m.sender, m.round, m.kind) {
-        return Answer { done: false, count };
+        return None;
     }
     if count > (words.len() / 3) as u64 {
-        return Answer { done: false, count };
+        return None;
     }
     if count + mask::count(to % 4096) > (words.len() / 3) as u64 {
-        return Answer { done: false, count };
+        return None;
     }
-    let n = lay(words, count, m, to);
-    Answer {
-        done: true,
-        count: n,
-    }
+    Some(lay(words, count, m, to))
 }

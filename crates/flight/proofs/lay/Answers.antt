@@ -1,22 +1,15 @@
 -- `flight::lay` sends to each station in the mask. The loop's invariant: the words are the entry's with the messages to the stations
 -- passed laid behind the others. Assumes nothing.
-use mathlib.Core.List.{◌++◌}
-use mathlib.Core.Path.{◌≡◌, ap, ◌∙◌}
-use Prim.Native.Nat.{ℕ, ◌+◌}
-use native.Mathlib.Omega.{arith}
-use lib.ListN.{length}
+use Rattle.std.proofs.Common.{◌≡◌, ap, ◌∙◌, ℕ, ◌+◌, ◌++◌, length, arith}
 use Rattle.flight.specs.Message.{decode, coded, sent_to}
 use Rattle.flight.proofs.Sending.{turn-start, turn-length, turn-fits, turn-number, turn-done, key_fits}
 use Rattle.flight.proofs.lay.Goals as goal
-
-pub pack-key-requires : goal.pack-key-requires
-pack-key-requires c = (omega arith, c.requires.packs)
 
 pub loop-k-init : goal.loop-k-init
 unfolding sent_to
 loop-k-init c =
     let a = c.args in
-    (omega arith, omega arith, turn-start a.words.now a.count a.m a.to c.requires.to_in_bounds)
+    record { number = omega arith; laid = turn-start a.words.now a.count a.m a.to c.requires.to_in_bounds }
 
 pub overflow_add-key : goal.overflow_add-key
 overflow_add-key c =
@@ -27,17 +20,9 @@ overflow_add-key c =
 pub put_next-n-requires : goal.put_next-n-requires
 put_next-n-requires c =
     let a = c.args in
-    let p = c.pack-key in
     let b = c.loop-k in
-    let t = c.loop-k-test.true in
     turn-fits a.words.now a.count a.m a.to c.requires.to_in_bounds
-    b.k t b.invariant.2 b.invariant.1 p.ensures c.has.ensures
-
-pub overflow_add-k : goal.overflow_add-k
-overflow_add-k c = omega arith
-
-pub loop-k-smaller : goal.loop-k-smaller
-loop-k-smaller c = omega arith
+    b.k (omega arith) b.invariant.laid b.invariant.number c.pack-key.ensures c.has.ensures
 
 pub loop-k-preserved : goal.loop-k-preserved
 loop-k-preserved c =
@@ -45,27 +30,25 @@ loop-k-preserved c =
     let room = c.requires.to_in_bounds in
     let p = c.pack-key in
     let b = c.loop-k in
-    let t = c.loop-k-test.true in
-    let h = c.has in
-    let n = c.put_next-n.ensures in (
-      omega arith,
-      n.value ∙ turn-number a.words.now a.count a.m a.to room b.k t b.invariant.2 b.invariant.1 p.ensures
-          h.ensures,
-      n.words_after ∙ turn-done a.words.now a.count a.m a.to room b.k t b.invariant.2 b.invariant.1 p.ensures h.ensures,
-    )
+    let n = c.put_next-n.ensures in record {
+      number = n.value ∙ turn-number a.words.now a.count a.m a.to room b.k (omega arith) b.invariant.laid b.invariant.number p.ensures
+          c.has.ensures;
+      laid = n.words_after ∙ turn-done a.words.now a.count a.m a.to room b.k (omega arith) b.invariant.laid b.invariant.number p.ensures
+          c.has.ensures;
+    }
 
 pub shape_of-words : goal.shape_of-words
 shape_of-words c =
     let a = c.args in
     let b = c.loop-k in
-    ap length b.invariant.2 ∙ turn-length a.words.now a.count a.m a.to
-    c.requires.to_in_bounds b.k b.invariant.0
+    ap length b.invariant.laid ∙ turn-length a.words.now a.count a.m a.to
+    c.requires.to_in_bounds b.k (omega arith)
 
 pub returns : goal.returns
 returns c =
     let a = c.args in
     let e : c.loop-k.k ≡ 12 = omega arith in record {
-      value = c.loop-k.invariant.1 ∙ ap (λ (k : ℕ). a.count + length (sent_to a.m k a.to)) e;
-      words_after = c.loop-k.invariant.2 ∙ ap (λ (k : ℕ). coded a.words.now (decode a.count a.words.now ++ sent_to
+      value = c.loop-k.invariant.number ∙ ap (λ (k : ℕ). a.count + length (sent_to a.m k a.to)) e;
+      words_after = c.loop-k.invariant.laid ∙ ap (λ (k : ℕ). coded a.words.now (decode a.count a.words.now ++ sent_to
           a.m k a.to)) e;
     }

@@ -32,8 +32,8 @@ returns-then-count-words-2 c =
     c.count.ensures c.if-count-words-2.true in
     record { value = rw e refl; words_after = rw e refl }
 
-pub lay-n-requires : goal.lay-n-requires
-lay-n-requires c =
+pub lay-requires : goal.lay-requires
+lay-requires c =
     let p = packs-true _ _ _ (sym c.packs.ensures ∙ c.if-not-packs.false) in record {
       packs = p;
       to_in_bounds = omega (
@@ -53,10 +53,10 @@ returns c =
     let e = send-can a.count l a.m a.to c.count.result p
     c.count.ensures
     c.if-count-words-2.false in
-    let n : length (decode a.count l ++ sent_to a.m 12 a.to) ≡ c.lay-n.result =
+    let n : length (decode a.count l ++ sent_to a.m 12 a.to) ≡ c.lay.result =
     length-append (decode a.count l) (sent_to a.m 12 a.to) ∙ omega (
       arith,
       length-decode a.count l,
-      c.lay-n.ensures.value,
+      c.lay.ensures.value,
     ) in
-    record { value = rw (e, n) refl; words_after = rw e c.lay-n.ensures.words_after }
+    record { value = rw (e, n) refl; words_after = rw e c.lay.ensures.words_after }
