@@ -77,9 +77,7 @@ fn put(words: &mut [u64], at: usize, key: u64, signers: u64, sent: u64)
     requires { at + 2 < length words.old }
     ensures { words.new ≡ flight.stored words.old at key signers sent }
 {
-    words[at] = key;
-    words[at + 1] = signers;
-    words[at + 2] = sent;
+    words[at..at + 3].copy_from_slice(&[key, signers, sent]);
 }
 
 // The i-th message of the words; a word past their end counts as 0.
@@ -104,12 +102,9 @@ fn seek(words: &[u64], count: u64, key: u64) -> u64
     requires { 3 * count ≤ length words.now }
     ensures { result ≡ flight.index_of (flight.unpacked key) (flight.decode count words.now) }
 {
-    for i in 0..count {
-        if words[(3 * i) as usize] == key {
-            return i;
-        }
-    }
-    count
+    (0..count)
+        .find(|&i| words[(3 * i) as usize] == key)
+        .unwrap_or(count)
 }
 
 // The place `near` where the message there has the first word `key`, else what `seek` finds.
@@ -154,10 +149,7 @@ fn move_to(words: &mut [u64], from: usize, at: usize)
     ensures { words.new ≡ flight.stored words.old at (get_or words.old from 0)
         (get_or words.old (from + 1) 0) (get_or words.old (from + 2) 0) }
 {
-    let key = words[from];
-    let signers = words[from + 1];
-    let sent = words[from + 2];
-    put(words, at, key, signers, sent);
+    words.copy_within(from..from + 3, at);
 }
 
 // The i-th message leaves the flight, and the last one takes its place. The answer is the number of messages then. Refused
