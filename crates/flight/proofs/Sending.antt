@@ -1,5 +1,5 @@
 -- Laws of sending to many: how many are sent, that there is room for each, and what one station's turn adds to the words.
-use Rattle.std.specs.Prelude.{ℕ, zero, suc, ◌+◌, ◌*◌, ◌-◌, ◌/◌, ◌%◌, ◌^◌, ◌<◌, ◌≤◌, Bool, true, false, ◌&&◌, ◌≡◌, eqb, length}
+use Rattle.std.specs.Prelude.{Option, None, Some, unwrap_or, ℕ, zero, suc, ◌+◌, ◌*◌, ◌-◌, ◌/◌, ◌%◌, ◌^◌, ◌<◌, ◌≤◌, Bool, true, false, ◌&&◌, ◌≡◌, eqb, length}
 use mathlib.Core.List.{List, [], ◌∷◌, ◌++◌, append_assoc, append-nil}
 use Rattle.std.proofs.Math.Path.{refl, sym}
 use Rattle.std.proofs.Common.{ap, ap₂, ◌∙◌, arith, add-one, length-append}
@@ -9,7 +9,7 @@ use Rattle.clock.specs.Pick.{pick}
 use Rattle.mask.specs.Mask.{has, count}
 use Rattle.mask.proofs.Laws.{count-below, count_most, count_same}
 use Rattle.flight.specs.declared.Message.{Message}
-use Rattle.flight.specs.Message.{packed, packs, key_of, names_of, decode, coded, stored, holds, Codable, toward, sent_to, can_send}
+use Rattle.flight.specs.Message.{answer_of, packed, packs, key_of, names_of, decode, coded, stored, holds, Codable, toward, sent_to, can_send}
 use Rattle.flight.specs.Members.{All, all-sent_to, length-sent_to}
 use Rattle.flight.proofs.Coding.{length-decode, length-coded, coded-decode, stored-end}
 use Rattle.flight.specs.Keys.{Packs}
@@ -176,3 +176,10 @@ pub codable-sent : (m : Message) (mask : ℕ) → Packs m.sender m.round m.kind 
 codable-sent m mask p g f =
     all-sent_to m 12 mask
     (λ k h _. record { sender = p.sender; recipient = omega arith; round = p.round; kind = p.kind; signers = g; sent = f })
+
+-- ---- answers
+
+-- the number of messages then
+pub count-answer_of : (n : ℕ) (r : Option ℕ) → (answer_of n r).count ≡ unwrap_or r n
+count-answer_of n (Some k) = refl
+count-answer_of n None = refl

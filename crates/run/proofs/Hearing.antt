@@ -17,8 +17,7 @@ use Rattle.station.specs.Station.{still, hear}
 use Rattle.station.specs.Limits.{small}
 use Rattle.flight.specs.declared.Message.{Message}
 use Rattle.flight.specs.declared.Names.{Names}
-use Rattle.flight.specs.declared.Answer.{Answer}
-use Rattle.flight.specs.Message.{decode, message_at, coded, holds, index_of, without, after, answer, can_take}
+use Rattle.flight.specs.Message.{Answer, decode, message_at, coded, holds, index_of, without, after, answer, can_take}
 use Rattle.event.specs.declared.Event.{Event}
 use Rattle.event.specs.declared.Event.TheVariants.{Send}
 use Rattle.line.specs.declared.Line.{Line}

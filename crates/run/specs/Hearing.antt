@@ -23,8 +23,7 @@ use Rattle.station.specs.Station.{waits, still, hear}
 use Rattle.station.specs.Limits.{small, is-small}
 use Rattle.flight.specs.declared.Message.{Message}
 use Rattle.flight.specs.declared.Names.{Names}
-use Rattle.flight.specs.declared.Answer.{Answer}
-use Rattle.flight.specs.Message.{decode, message_at, coded, holds, no_message, index_of, near_or, without, after, answer, can_take}
+use Rattle.flight.specs.Message.{Answer, decode, message_at, coded, holds, no_message, index_of, near_or, without, after, answer, can_take}
 use Rattle.flight.proofs.Places.{near-is}
 use Rattle.flight.specs.Members.{length_without, index_of-most}
 use Rattle.flight.proofs.Coding.{length-decode, length-coded, decode-at, laid-start, laid-without, laid-decode, laid-over}

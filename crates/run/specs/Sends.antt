@@ -13,8 +13,7 @@ use Rattle.mask.proofs.Laws.{has-below, only-lt}
 use Rattle.setup.specs.declared.Plan.{Plan}
 use Rattle.station.specs.declared.Outcome.{Outcome}
 use Rattle.flight.specs.declared.Message.{Message}
-use Rattle.flight.specs.declared.Answer.{Answer}
-use Rattle.flight.specs.Message.{decode, coded, holds, Codable, sent_to, can_send, answer, after}
+use Rattle.flight.specs.Message.{Answer, decode, coded, holds, Codable, sent_to, can_send, answer, after}
 use Rattle.flight.proofs.Coding.{length-decode, coded-decode, decode-codable, Laid, laid-decode, laid-length, laid-over}
 use Rattle.flight.specs.Members.{All, all_append}
 use Rattle.flight.proofs.Sending.{count-sent, count-few, codable-sent, send-allowed}

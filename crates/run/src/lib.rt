@@ -95,7 +95,7 @@ fn tell(
     let ready = Message {
         sender: i,
         recipient: 0,
-        round: round,
+        round,
         kind: 0,
         signers: mask::only(i),
         sent: time,
@@ -103,13 +103,13 @@ fn tell(
     let relay = Message {
         sender: i,
         recipient: 0,
-        round: round,
+        round,
         kind: 1,
         signers: o.relay,
         sent: time,
     };
-    let behind = flight::send(words, count, ready, part(o.ready, to));
-    flight::send(words, behind.count, relay, part(o.relay != 0, to)).count
+    let behind = flight::send(words, count, ready, part(o.ready, to)).unwrap_or(count);
+    flight::send(words, behind, relay, part(o.relay != 0, to)).unwrap_or(behind)
 }
 
 // ---- hearing
@@ -130,9 +130,9 @@ fn take_out(words: &mut [u64], count: u64, at: u64, places: &mut [u64]) -> u64
     ensures value { result ≡ (answer (can_take count words.old at) count (without at (decode count words.old))).count }
     ensures words_after { words.new ≡ after (can_take count words.old at) words.old (without at (decode count words.old)) }
 {
-    let left = flight::take_out(words, count, at);
+    let left = flight::take_out(words, count, at).unwrap_or(count);
     notes::note_places(words, at, at + 1, places);
-    left.count
+    left
 }
 
 // What station i sends to the others, and where it lies is noted.
@@ -174,7 +174,7 @@ fn deliver(
         return Heard {
             answer: 16,
             station: s,
-            count: count,
+            count,
         };
     }
     let m = flight::message_at(words, at);
@@ -183,15 +183,14 @@ fn deliver(
         return Heard {
             answer: 19,
             station: s,
-            count: count,
+            count,
         };
     }
     let left = take_out(words, count, at, places);
-    let next = o.station;
     if quiet(o) {
         return Heard {
             answer: 0,
-            station: next,
+            station: o.station,
             count: left,
         };
     }
@@ -207,7 +206,7 @@ fn deliver(
     );
     Heard {
         answer: 0,
-        station: next,
+        station: o.station,
         count: after,
     }
 }
@@ -225,10 +224,8 @@ fn some_unsigned(plan: Plan, signed: &[u64], round: u64, signers: u64) -> bool
     ensures { result ≡ some_station (hear.unsigned_by plan signed.now round signers) plan.stations }
 {
     let mut bad = false;
-    let mut i: u64 = 0;
-    while i < plan.stations {
-        bad = bad | unsigned_at(plan, signed[i as usize], round, signers, i);
-        i += 1;
+    for i in 0..plan.stations {
+        bad |= unsigned_at(plan, signed[i as usize], round, signers, i);
     }
     bad
 }
@@ -267,14 +264,14 @@ fn send(
         return Heard {
             answer: 17,
             station: s,
-            count: count,
+            count,
         };
     }
     if unsigned(plan, signed, s, round, signers) {
         return Heard {
             answer: 18,
             station: s,
-            count: count,
+            count,
         };
     }
     let o = station::heard(plan, round, signers, s);
@@ -282,21 +279,20 @@ fn send(
         return Heard {
             answer: 19,
             station: s,
-            count: count,
+            count,
         };
     }
-    let next = o.station;
     if quiet(o) {
         return Heard {
             answer: 0,
-            station: next,
-            count: count,
+            station: o.station,
+            count,
         };
     }
     let after = tell_noted(words, count, plan, time, recipient, s.round + 1, o, places);
     Heard {
         answer: 0,
-        station: next,
+        station: o.station,
         count: after,
     }
 }
@@ -321,7 +317,7 @@ fn hear(
         Event::Advance(_) => Heard {
             answer: 11,
             station: s,
-            count: count,
+            count,
         },
         Event::Deliver {
             sender,
@@ -358,11 +354,8 @@ fn note_signed(l: Line, signed: &mut [u64])
     requires { (l.plan.stations ≤ 12) × (l.plan.stations ≤ length signed.old) }
     ensures { signed.new ≡ hear.signed_to l signed.old l.plan.stations }
 {
-    let mut i: u64 = 0;
-    while i < l.plan.stations {
-        let s = l.stations[i as usize];
-        signed[i as usize] = s.signed;
-        i += 1;
+    for i in 0..l.plan.stations {
+        signed[i as usize] = l.stations[i as usize].signed;
     }
 }
 
@@ -371,8 +364,7 @@ fn seat(mut l: Line, i: u64, h: Heard) -> Played
     requires { i < 12 }
     ensures { result ≡ hear.seats l i h }
 {
-    let next = h.station;
-    l.stations[i as usize] = next;
+    l.stations[i as usize] = h.station;
     l.count = h.count;
     Played {
         answer: h.answer,
@@ -410,20 +402,16 @@ fn meets_some(l: Line, d: u64, increments: &[u64]) -> Meets
     let mut exceeds = false;
     let mut drifts = false;
     let mut passes = false;
-    let mut i: u64 = 0;
-    while i < l.plan.stations {
-        let by = increments[i as usize];
-        let s = l.stations[i as usize];
-        let t = meets_at(l.plan, d, by, i, s);
-        exceeds = exceeds | t.exceeds;
-        drifts = drifts | t.drifts;
-        passes = passes | t.passes;
-        i += 1;
+    for i in 0..l.plan.stations {
+        let t = meets_at(l.plan, d, increments[i as usize], i, l.stations[i as usize]);
+        exceeds |= t.exceeds;
+        drifts |= t.drifts;
+        passes |= t.passes;
     }
     Meets {
-        exceeds: exceeds,
-        drifts: drifts,
-        passes: passes,
+        exceeds,
+        drifts,
+        passes,
     }
 }
 
@@ -440,21 +428,13 @@ fn take_turns(l: Line, d: u64, increments: &[u64]) -> Turns
     ensures { result ≡ going.turns_to l increments.now l.plan.stations }
 {
     let mut stations = l.stations;
-    let mut sent: u64 = 0;
-    let mut i: u64 = 0;
-    while i < l.plan.stations {
-        let by = increments[i as usize];
-        let s = l.stations[i as usize];
-        let o = station::advanced(l.plan, i, by, s);
-        let next = o.station;
-        stations[i as usize] = next;
+    let mut sent = 0;
+    for i in 0..l.plan.stations {
+        let o = station::advanced(l.plan, i, increments[i as usize], l.stations[i as usize]);
+        stations[i as usize] = o.station;
         sent += count_sent(l.plan, i, o);
-        i += 1;
     }
-    Turns {
-        stations: stations,
-        sent: sent,
-    }
+    Turns { stations, sent }
 }
 
 // What each of them sends, in order. The answer is the number of messages then.
@@ -468,13 +448,10 @@ fn tell_all(l: Line, words: &mut [u64], d: u64, increments: &[u64]) -> u64
 {
     let time = l.time.after(d);
     let mut count = l.count;
-    let mut i: u64 = 0;
-    while i < l.plan.stations {
-        let by = increments[i as usize];
+    for i in 0..l.plan.stations {
         let s = l.stations[i as usize];
-        let o = station::advanced(l.plan, i, by, s);
+        let o = station::advanced(l.plan, i, increments[i as usize], s);
         count = tell(words, count, l.plan, time, i, s.round + 1, o);
-        i += 1;
     }
     count
 }
@@ -512,21 +489,22 @@ fn advance(l: Line, words: &mut [u64], d: u64, increments: &[u64]) -> Played
             line: l,
         };
     }
-    let turns = take_turns(l, d, increments);
-    if MAX_FLIGHT < l.count + turns.sent {
+    let Turns { stations, sent } = take_turns(l, d, increments);
+    if MAX_FLIGHT < l.count + sent {
         return Played {
             answer: 19,
             line: l,
         };
     }
-    let stations = turns.stations;
-    let mut next = l;
-    next.time = time;
-    next.stations = stations;
-    next.count = tell_all(l, words, d, increments);
+    let count = tell_all(l, words, d, increments);
     Played {
         answer: 0,
-        line: next,
+        line: Line {
+            time,
+            stations,
+            count,
+            ..l
+        },
     }
 }
 
@@ -547,21 +525,7 @@ fn pass(l: Line, words: &mut [u64], event: Event, increments: &[u64]) -> Played
     }
     match event {
         Event::Advance(d) => advance(l, words, d, increments),
-        Event::Deliver {
-            sender: _,
-            recipient: _,
-            round: _,
-            kind: _,
-        } => Played {
-            answer: 11,
-            line: l,
-        },
-        Event::Send {
-            sender: _,
-            recipient: _,
-            round: _,
-            signers: _,
-        } => Played {
+        Event::Deliver { .. } | Event::Send { .. } => Played {
             answer: 11,
             line: l,
         },
@@ -581,12 +545,11 @@ fn step(l: Line, words: &mut [u64], event: Event, increments: &[u64]) -> Played
     let mut signed = [0u64; 12];
     note_signed(l, &mut signed);
     let mut places = [0u64; 1];
-    let s = l.stations[i as usize];
     let h = hear(
         l.plan,
         l.time,
         l.count,
-        s,
+        l.stations[i as usize],
         &signed,
         words,
         &mut places,

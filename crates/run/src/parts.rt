@@ -5,9 +5,8 @@ ghost use Rattle.clock.specs.Limits.{max_script};
 ghost use Rattle.run.specs.Part as part;
 ghost use Rattle.run.specs.Ready as laws;
 
-use clock::{MAX_SCRIPT, Reading};
+use clock::MAX_SCRIPT;
 use line::Line;
-use station::Station;
 
 // How far a script is played: 0, or 10 for the record, or 21 to 24 where the script can't be read on; the run, the place of
 // the next event, the number of the last one played and the place behind its line.
@@ -25,21 +24,11 @@ fn seated(l: Line) -> Line
     requires { l.plan.stations ≤ 12 }
     ensures { result ≡ part.seated l }
 {
-    let mut table = [Station {
-        round: 0,
-        reading: Reading(0),
-        signed: 0,
-        gathered: 0,
-    }; 12];
-    let mut i: u64 = 0;
-    while i < l.plan.stations {
-        let s = line::station(l, i);
-        table[i as usize] = s;
-        i += 1;
+    let mut stations = [line::no_station(); 12];
+    for i in 0..l.plan.stations {
+        stations[i as usize] = line::station(l, i);
     }
-    let mut next = l;
-    next.stations = table;
-    next
+    Line { stations, ..l }
 }
 
 // Whether an event stands at the place, and the buffer has room for its line. A script has no more events than bytes.
@@ -75,20 +64,19 @@ fn play_on(
         if read.answer != 0 {
             return Part {
                 answer: read.answer,
-                line: line,
+                line,
                 next: read.next,
-                number: number,
+                number,
                 place: text::script_line(read.answer, out, place),
             };
         }
-        let event = read.event;
-        let i = event::hearer(n, line.plan.faulty, event);
+        let i = event::hearer(n, line.plan.faulty, read.event);
         next = read.next;
         number += 1;
-        let mut answer: u64 = 0;
+        let answer;
         if i >= n {
-            let increments = read.increments;
-            let p = super::pass(line, words, event, &increments[..n as usize]);
+            let increments = &read.increments[..n as usize];
+            let p = super::pass(line, words, read.event, increments);
             notes::note_places(words, line.count, p.line.count, places);
             line = p.line;
             answer = p.answer;
@@ -97,14 +85,13 @@ fn play_on(
         } else {
             let was = line.stations[i as usize];
             let h = super::hear(
-                line.plan, line.time, line.count, was, signed, words, places, event,
+                line.plan, line.time, line.count, was, signed, words, places, read.event,
             );
-            let s = h.station;
-            line.stations[i as usize] = s;
+            line.stations[i as usize] = h.station;
             line.count = h.count;
             answer = h.answer;
-            signed[i as usize] = s.signed;
-            if s.round != was.round {
+            signed[i as usize] = h.station.signed;
+            if h.station.round != was.round {
                 long = text::line_end(line, end);
             }
         }
@@ -112,10 +99,10 @@ fn play_on(
     }
     Part {
         answer: 0,
-        line: line,
-        next: next,
-        number: number,
-        place: place,
+        line,
+        next,
+        number,
+        place,
     }
 }
 

@@ -1,12 +1,11 @@
 -- `run::deliver` comes to the deliver's table and effect: 16, then 19, else the message leaves the flight, its recipient takes its
 -- new place and what it sends follows. Assumes nothing.
-use Prim.Native.Nat.{◌+◌}
-use mathlib.Core.Path.{sym, ◌∙◌}
-use native.Mathlib.Omega.{arith}
-use Rattle.run.specs.Sends.{sent-few, sends_none}
+use Rattle.std.proofs.Common.{◌+◌, sym, ◌∙◌, arith, rules}
+use Rattle.run.specs.Sends.{Room, sent-few, sends_none}
 use Rattle.run.specs.Hearing.{stands-found, lies-limits}
 use Rattle.run.proofs.Hearing.{does-none, does-below, does-full, does-room, does-comes}
 use Rattle.run.proofs.deliver.Goals as goal
+use Rattle.run.proofs.deliver.Goals.{After-take_out-left}
 
 pub returns-then-at-count : goal.returns-then-at-count
 returns-then-at-count c =
@@ -33,25 +32,31 @@ take_out-left-requires c =
     let a = c.args in
     omega (arith, does-below a.plan a.time a.count a.s a.words.now a.names _ (stands-found c.requires _ _ c.find-at.ensures) c.if-at-count.false _ c.message_at-m.ensures _ c.heard-o.ensures c.requires, (lies-limits c.requires.lies).3)
 
+-- there is room for what its recipient sends
+room : (c : After-take_out-left) → Room c.take_out-left.new.words c.take_out-left.result c.args.plan c.args.time.0 c.args.names.recipient (c.args.s.round + 1) c.heard-o.result
+room c =
+    let a = c.args in
+    let limits = lies-limits c.requires.lies in
+    record {
+      place = limits.0;
+      low = limits.1;
+      fits = limits.2;
+      room = does-room a.plan a.time a.count a.s a.words.now a.names _ (stands-found c.requires _ _ c.find-at.ensures) c.if-at-count.false _ c.message_at-m.ensures _ c.heard-o.ensures (omega arith) _ _ c.take_out-left.ensures.value c.take_out-left.ensures.words_after c.requires;
+    }
+
 pub returns-then-quiet : goal.returns-then-quiet
 returns-then-quiet c =
     let a = c.args in
-    let limits = lies-limits c.requires.lies in
-    let room = does-room a.plan a.time a.count a.s a.words.now a.names _ (stands-found c.requires _ _ c.find-at.ensures) c.if-at-count.false _ c.message_at-m.ensures _ c.heard-o.ensures (omega arith) _ _ c.take_out-left.ensures.value c.take_out-left.ensures.words_after c.requires in
-    let none = sends_none a.plan a.time.0 a.names.recipient (a.s.round + 1) _ _ _ (record { place = limits.0; low = limits.1; fits = limits.2; room = room }) (sym c.quiet.ensures ∙ c.if-quiet.true) in
-    does-comes a.plan a.time a.count a.s a.words.now a.names _ (stands-found c.requires _ _ c.find-at.ensures) c.if-at-count.false _ c.message_at-m.ensures _ c.heard-o.ensures (omega arith) _ _ c.take_out-left.ensures.value c.take_out-left.ensures.words_after (λ j. (c.slice_known-1.given j).fits) _ _ none.0 none.1
+    let none = sends_none a.plan a.time.0 a.names.recipient (a.s.round + 1) _ _ _ (room (goal.at.returns-then-quiet c).After-take_out-left) (sym c.quiet.ensures ∙ c.if-quiet.true) in
+    does-comes a.plan a.time a.count a.s a.words.now a.names _ (stands-found c.requires _ _ c.find-at.ensures) c.if-at-count.false _ c.message_at-m.ensures _ c.heard-o.ensures (omega arith) _ _ c.take_out-left.ensures.value c.take_out-left.ensures.words_after (λ j. search rules) _ _ none.0 none.1
 
 pub overflow_add-s : goal.overflow_add-s
 overflow_add-s c = omega (arith, (lies-limits c.requires.lies).1)
 
 pub tell_noted-after-requires : goal.tell_noted-after-requires
-tell_noted-after-requires c =
-    let a = c.args in
-    let limits = lies-limits c.requires.lies in
-    let room = does-room a.plan a.time a.count a.s a.words.now a.names _ (stands-found c.requires _ _ c.find-at.ensures) c.if-at-count.false _ c.message_at-m.ensures _ c.heard-o.ensures (omega arith) _ _ c.take_out-left.ensures.value c.take_out-left.ensures.words_after c.requires in
-    record { place = limits.0; low = limits.1; fits = limits.2; room = room }
+tell_noted-after-requires c = room (goal.at.tell_noted-after-requires c).After-take_out-left
 
 pub returns : goal.returns
 returns c =
     let a = c.args in
-    does-comes a.plan a.time a.count a.s a.words.now a.names _ (stands-found c.requires _ _ c.find-at.ensures) c.if-at-count.false _ c.message_at-m.ensures _ c.heard-o.ensures (omega arith) _ _ c.take_out-left.ensures.value c.take_out-left.ensures.words_after (λ j. (c.slice_known-1.given j).fits) _ _ c.tell_noted-after.ensures.value c.tell_noted-after.ensures.words_after
+    does-comes a.plan a.time a.count a.s a.words.now a.names _ (stands-found c.requires _ _ c.find-at.ensures) c.if-at-count.false _ c.message_at-m.ensures _ c.heard-o.ensures (omega arith) _ _ c.take_out-left.ensures.value c.take_out-left.ensures.words_after (λ j. search rules) _ _ c.tell_noted-after.ensures.value c.tell_noted-after.ensures.words_after

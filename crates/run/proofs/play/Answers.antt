@@ -8,7 +8,8 @@ use Rattle.run.proofs.play.Goals as goal
 pub returns-then-bad_line : goal.returns-then-bad_line
 unfolding play_answer
 returns-then-bad_line c =
-    record { value = (comes-no c.args.l c.args.words.now _ _ 10 (rw (sym c.bad_line.ensures ∙ c.if-bad_line.true) refl) (λ z. omega arith)).0; words_after = (comes-no c.args.l c.args.words.now _ _ 10 (rw (sym c.bad_line.ensures ∙ c.if-bad_line.true) refl) (λ z. omega arith)).1 }
+    let no = comes-no c.args.l c.args.words.now _ _ 10 (rw (sym c.bad_line.ensures ∙ c.if-bad_line.true) refl) (λ z. omega arith) in
+    record { value = no.0; words_after = no.1 }
 
 pub step-requires : goal.step-requires
 step-requires c = held-is _ _ (sym c.bad_line.ensures ∙ c.if-bad_line.false)

@@ -1,25 +1,27 @@
 -- `run::tell` sends a ready and a relay, each to a mask: after both the words hold what the station sends behind the others.
 -- Assumes nothing.
-use mathlib.Core.Path.{sym, ◌∙◌}
+use Rattle.std.proofs.Common.{◌≡◌, ap, sym, ◌∙◌, ℕ, rules}
+use Rattle.flight.specs.Message.{answer_of}
+use Rattle.flight.proofs.Sending.{count-answer_of}
 use Rattle.run.specs.Sends.{sends_none, both-sends}
-use borrow.Author.Rules.{rules}
 use Rattle.run.proofs.tell.Goals as goal
 
 pub returns-then-quiet : goal.returns-then-quiet
 returns-then-quiet c =
     let a = c.args in
-    record { value = (sends_none a.plan a.time.0 a.i a.round a.o a.words.now a.count c.requires (sym c.quiet.ensures ∙ c.if-quiet.true)).0; words_after = (sends_none a.plan a.time.0 a.i a.round a.o a.words.now a.count c.requires (sym c.quiet.ensures ∙ c.if-quiet.true)).1 }
+    let none = sends_none a.plan a.time.0 a.i a.round a.o a.words.now a.count c.requires (sym c.quiet.ensures ∙ c.if-quiet.true) in
+    record { value = none.0; words_after = none.1 }
 
 pub returns : goal.returns
 returns c =
     let a = c.args in
+    let behind : c.unwrap_or-behind.result ≡ (answer_of a.count c.send.result).count =
+    c.unwrap_or-behind.ensures ∙ sym (count-answer_of a.count c.send.result) in
+    let both =
+    both-sends a.plan a.time.0 a.i a.round a.o a.words.now a.count c.requires (λ j. search rules) (search rules) _ _ _ _ _ _ _
+    (c.part.ensures ∙ rw c.others-to.ensures) (c.part-2.ensures ∙ rw c.others-to.ensures) c.send.ensures.value c.send.ensures.words_after
+    (rw behind at c.send-2.ensures.value) (rw behind at c.send-2.ensures.words_after) (rw c.only.ensures) in
     record {
-      value = (both-sends a.plan a.time.0 a.i a.round a.o a.words.now a.count c.requires
-          (λ j. (c.slice_known-1.given j).fits) (search rules) _ _ _ _ _ _ _
-          (c.part.ensures ∙ rw c.others-to.ensures) (c.part-2.ensures ∙ rw c.others-to.ensures) c.send-behind.ensures.value c.send-behind.ensures.words_after
-          c.send.ensures.value c.send.ensures.words_after (rw c.only.ensures)).0;
-      words_after = (both-sends a.plan a.time.0 a.i a.round a.o a.words.now a.count c.requires
-          (λ j. (c.slice_known-1.given j).fits) (search rules) _ _ _ _ _ _ _
-          (c.part.ensures ∙ rw c.others-to.ensures) (c.part-2.ensures ∙ rw c.others-to.ensures) c.send-behind.ensures.value c.send-behind.ensures.words_after
-          c.send.ensures.value c.send.ensures.words_after (rw c.only.ensures)).1;
+      value = c.unwrap_or.ensures ∙ sym (count-answer_of c.unwrap_or-behind.result c.send-2.result) ∙ ap (λ (n : ℕ). (answer_of n c.send-2.result).count) behind ∙ both.0;
+      words_after = both.1;
     }

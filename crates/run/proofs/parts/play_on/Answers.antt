@@ -1,15 +1,14 @@
 -- `run::play_on` plays one event after the other: what is still to be played from where it stands is what was to be played from
 -- the start, the record stays valid, and the rounds signed and the line's end are kept beside it. The measure is how many events
 -- may still come. Assumes nothing.
-use mathlib.Core.Path.{refl, sym, ◌∙◌}
-use native.Mathlib.Omega.{arith}
-use lib.ListN.{take}
-use lib.Seq.{length-take-le}
+use Rattle.std.proofs.Common.{refl, sym, ◌∙◌, take, arith}
+use Rattle.std.proofs.Math.Seq.{length-take-le}
 use Rattle.run.specs.Hearing.{line-stands}
+use Rattle.run.specs.Limits.{held-is, held-settled}
 use Rattle.run.specs.Part.{standing}
-use Rattle.run.proofs.PartLaws.{Turned, turned_as, goes_number, ready-onward, onward-read, onward-ends, part-from, turn-held, turn-few, turn-increments, turn-read, turn-hearer, turn-nobody, turn-plan, turn-passes, turn-starts, turn-stays, turn-shown}
+use Rattle.run.proofs.PartLaws.{Turned, turned_as, goes_number, ready-onward, onward-read, onward-ends, part-from, turn-held, turn-few, turn-read, turn-hearer, turn-nobody, turn-plan, turn-passes, turn-starts, turn-stays, turn-shown}
 use Rattle.run.proofs.parts.play_on.Goals as goal
-use Rattle.run.proofs.parts.play_on.Goals.{Joined-i-n, then-i-n, else-i-n+then-s-was, else-i-n+else-s-was}
+use Rattle.run.proofs.parts.play_on.Goals.{Joined-i-n, then-i-n, else-i-n+then-h-was, else-i-n+else-h-was}
 
 -- the turn, whichever way it went: the event is played, and the places noted are as many as before
 turned : (c : Joined-i-n)
@@ -19,84 +18,65 @@ turned c =
     let q = c.hearer-i.ensures in
     elim c.if-i-n.branch [
       | then-i-n w ↦
-          turned_as (turn-passes _ _ _ inv.0 inv.1 _ _ w.pass-p.result _ w.pass-p.ensures.value w.pass-p.ensures.words_after _ w.note_signed.ensures _ _ w.line_end-long.ensures.value w.line_end-long.ensures.out_after) w.words-is w.signed-is w.end-is w.long-is w.line-is w.answer-is
-      | else-i-n+then-s-was w ↦
-          turned_as (turn-starts _ _ _ inv.0 inv.1 _ _ _ q (omega (arith, w.if-i-n.false)) w.hear-h.result _ w.hear-h.ensures _ _ w.line_end-long-then-s-was.ensures.value w.line_end-long-then-s-was.ensures.out_after) w.words-is w.signed-is w.end-is w.long-is w.line-is w.answer-is
-      | else-i-n+else-s-was w ↦
-          turned_as (turn-stays _ _ _ inv.0 inv.1 _ _ _ q (omega (arith, w.if-i-n.false)) w.hear-h.result _ w.hear-h.ensures w.if-s-was.false) w.words-is w.signed-is w.end-is w.long-is w.line-is w.answer-is
+          turned_as (turn-passes _ _ _ inv.on inv.beside _ _ w.pass-p.result _ w.pass-p.ensures.value w.pass-p.ensures.words_after _ w.note_signed.ensures _ _ w.line_end-long.ensures.value w.line_end-long.ensures.out_after) w.words-is w.signed-is w.end-is w.long-is w.line-is w.answer-is
+      | else-i-n+then-h-was w ↦
+          turned_as (turn-starts _ _ _ inv.on inv.beside _ _ _ q (omega (arith, w.if-i-n.false)) w.hear-h.result _ w.hear-h.ensures _ _ w.line_end-long-then-h-was.ensures.value w.line_end-long-then-h-was.ensures.out_after) w.words-is w.signed-is w.end-is w.long-is w.line-is w.answer-is
+      | else-i-n+else-h-was w ↦
+          turned_as (turn-stays _ _ _ inv.on inv.beside _ _ _ q (omega (arith, w.if-i-n.false)) w.hear-h.result _ w.hear-h.ensures w.if-h-was.false) w.words-is w.signed-is w.end-is w.long-is w.line-is w.answer-is
     ]
 
 pub loop-read-init : goal.loop-read-init
 loop-read-init c =
     let a = c.args in
-    (ready-onward c.requires a.bytes.now a.next a.number a.out.now a.place, c.requires.beside, refl)
+    record {
+      on = ready-onward c.requires a.bytes.now a.next a.number a.out.now a.place;
+      beside = c.requires.beside;
+      few = (held-settled (held-is _ _ c.requires.good)).few;
+      places = refl;
+    }
 
 pub shape_of-words-then-read-ne0 : goal.shape_of-words-then-read-ne0
-shape_of-words-then-read-ne0 c = c.loop-read.invariant.0.words
+shape_of-words-then-read-ne0 c = c.loop-read.invariant.on.words
 
 pub shape_of-out-then-read-ne0 : goal.shape_of-out-then-read-ne0
-shape_of-out-then-read-ne0 c = c.script_line.auto.out ∙ c.loop-read.invariant.0.out
+shape_of-out-then-read-ne0 c = c.script_line.auto.out ∙ c.loop-read.invariant.on.out
 
 pub shape_of-signed-then-read-ne0 : goal.shape_of-signed-then-read-ne0
-shape_of-signed-then-read-ne0 c = c.loop-read.invariant.1.twelve ∙ sym c.requires.beside.twelve
+shape_of-signed-then-read-ne0 c = c.loop-read.invariant.beside.twelve ∙ sym c.requires.beside.twelve
 
 pub shape_of-places-then-read-ne0 : goal.shape_of-places-then-read-ne0
-shape_of-places-then-read-ne0 c = c.loop-read.invariant.2
+shape_of-places-then-read-ne0 c = c.loop-read.invariant.places
 
 pub shape_of-end-then-read-ne0 : goal.shape_of-end-then-read-ne0
-shape_of-end-then-read-ne0 c = c.loop-read.invariant.1.room ∙ sym c.requires.beside.room
+shape_of-end-then-read-ne0 c = c.loop-read.invariant.beside.room ∙ sym c.requires.beside.room
 
 pub returns-then-read-ne0 : goal.returns-then-read-ne0
 returns-then-read-ne0 c =
     let read = c.read_event-read in
     let g = sym c.goes_on.ensures ∙ c.loop-read-test.true in
     let inv = c.loop-read.invariant in
-    let from = part-from _ _ _ (onward-read _ _ _ inv.0 g read.result (turn-read _ _ _ inv.0 inv.1 read.result read.ensures) c.if-read-ne0.true _ _ c.script_line.ensures.value c.script_line.ensures.out_after) in
+    let from = part-from _ _ _ (onward-read _ _ _ inv.on g read.result (turn-read _ _ _ inv.on inv.beside read.result read.ensures) c.if-read-ne0.true _ _ c.script_line.ensures.value c.script_line.ensures.out_after) in
     record { value = from.0; words_after = from.1.0; out_after = from.1.1 }
 
 pub overflow_add-number : goal.overflow_add-number
 overflow_add-number c = omega (arith, (goes_number _ _ _ _ _ (sym c.goes_on.ensures ∙ c.loop-read-test.true)).0)
 
-pub slice_bounds-increments-end : goal.slice_bounds-increments-end
-slice_bounds-increments-end c = let inv = c.loop-read.invariant in turn-increments _ _ _ inv.0 inv.1 c.read_event-read.result c.read_event-read.ensures
-
-pub slice_bounds-pass-end : goal.slice_bounds-pass-end
-slice_bounds-pass-end c = let inv = c.loop-read.invariant in sym (length-take-le _ _ (turn-increments _ _ _ inv.0 inv.1 c.read_event-read.result c.read_event-read.ensures))
-
 pub pass-p-requires : goal.pass-p-requires
 pass-p-requires c =
     let inv = c.loop-read.invariant in
-    record { held = turn-held _ _ _ inv.0 inv.1; nobody = turn-nobody _ _ _ inv.0 inv.1 _ _ c.hearer-i.ensures c.if-i-n.true }
+    record { held = turn-held _ _ _ inv.on inv.beside; nobody = turn-nobody _ _ _ inv.on inv.beside _ _ c.hearer-i.ensures c.if-i-n.true }
 
 pub note_signed-requires : goal.note_signed-requires
 note_signed-requires c =
     let inv = c.loop-read.invariant in
-    let many = turn-plan _ _ _ inv.0 inv.1 _ _ _ c.pass-p.ensures.value in
-    let few = turn-few _ _ _ inv.0 inv.1 in
-    (omega (arith, many, few), omega (arith, many, few, inv.1.twelve))
-
-pub offset_bounds-line-i : goal.offset_bounds-line-i
-offset_bounds-line-i c = let inv = c.loop-read.invariant in omega (arith, c.if-i-n.false, turn-few _ _ _ inv.0 inv.1)
-
-pub bounds-line-i : goal.bounds-line-i
-bounds-line-i c = let inv = c.loop-read.invariant in omega (arith, c.if-i-n.false, turn-few _ _ _ inv.0 inv.1)
+    let many = turn-plan _ _ _ inv.on inv.beside _ _ _ c.pass-p.ensures.value in
+    let few = turn-few _ _ _ inv.on inv.beside in
+    (omega (arith, many, few), omega (arith, many, few, inv.beside.twelve))
 
 pub hear-h-requires : goal.hear-h-requires
 hear-h-requires c =
     let inv = c.loop-read.invariant in
-    record { stands = line-stands (turn-held _ _ _ inv.0 inv.1) _ _ (turn-hearer _ _ _ inv.0 inv.1 _ _ c.hearer-i.ensures) (omega (arith, c.if-i-n.false, inv.1.stations)); signed_len = inv.1.twelve }
-
-pub offset_bounds-line-i-else-i-n : goal.offset_bounds-line-i-else-i-n
-offset_bounds-line-i-else-i-n c = let inv = c.loop-read.invariant in omega (arith, c.if-i-n.false, turn-few _ _ _ inv.0 inv.1)
-
-pub bounds-line-i-else-i-n : goal.bounds-line-i-else-i-n
-bounds-line-i-else-i-n c = let inv = c.loop-read.invariant in omega (arith, c.if-i-n.false, turn-few _ _ _ inv.0 inv.1, inv.0.twelve)
-
-pub offset_bounds-signed-i : goal.offset_bounds-signed-i
-offset_bounds-signed-i c = let inv = c.loop-read.invariant in omega (arith, c.if-i-n.false, turn-few _ _ _ inv.0 inv.1)
-
-pub bounds-signed-i : goal.bounds-signed-i
-bounds-signed-i c = let inv = c.loop-read.invariant in omega (arith, c.if-i-n.false, turn-few _ _ _ inv.0 inv.1, inv.1.twelve)
+    record { stands = line-stands (turn-held _ _ _ inv.on inv.beside) _ _ (turn-hearer _ _ _ inv.on inv.beside _ _ c.hearer-i.ensures) (omega (arith, c.if-i-n.false, inv.beside.stations)); signed_len = inv.beside.twelve }
 
 pub slice_bounds-event_line-end : goal.slice_bounds-event_line-end
 slice_bounds-event_line-end c = let b = (turned c).beside in omega (arith, b.fits, b.room)
@@ -113,24 +93,29 @@ loop-read-preserved c =
     let g = sym c.goes_on.ensures ∙ c.loop-read-test.true in
     let read = c.read_event-read in
     let t = turned (goal.at.loop-read-preserved c).Joined-i-n in
-    (turn-shown _ _ _ inv.0 inv.1 g read.result read.ensures c.if-read-ne0.false t _ _ c.event_line-place.ensures.value c.event_line-place.ensures.out_after, t.beside, c.if-i-n.auto.places ∙ inv.2)
+    record {
+      on = turn-shown _ _ _ inv.on inv.beside g read.result read.ensures c.if-read-ne0.false t _ _ c.event_line-place.ensures.value c.event_line-place.ensures.out_after;
+      beside = t.beside;
+      few = inv.few;
+      places = c.if-i-n.auto.places ∙ inv.places;
+    }
 
 pub shape_of-words : goal.shape_of-words
-shape_of-words c = c.loop-read.invariant.0.words
+shape_of-words c = c.loop-read.invariant.on.words
 
 pub shape_of-out : goal.shape_of-out
-shape_of-out c = c.loop-read.invariant.0.out
+shape_of-out c = c.loop-read.invariant.on.out
 
 pub shape_of-signed : goal.shape_of-signed
-shape_of-signed c = c.loop-read.invariant.1.twelve ∙ sym c.requires.beside.twelve
+shape_of-signed c = c.loop-read.invariant.beside.twelve ∙ sym c.requires.beside.twelve
 
 pub shape_of-places : goal.shape_of-places
-shape_of-places c = c.loop-read.invariant.2
+shape_of-places c = c.loop-read.invariant.places
 
 pub shape_of-end : goal.shape_of-end
-shape_of-end c = c.loop-read.invariant.1.room ∙ sym c.requires.beside.room
+shape_of-end c = c.loop-read.invariant.beside.room ∙ sym c.requires.beside.room
 
 pub returns : goal.returns
 returns c =
-    let from = part-from _ _ _ (onward-ends _ _ _ c.loop-read.invariant.0 (sym c.goes_on.ensures ∙ c.loop-read-test.false)) in
+    let from = part-from _ _ _ (onward-ends _ _ _ c.loop-read.invariant.on (sym c.goes_on.ensures ∙ c.loop-read-test.false)) in
     record { value = from.0; words_after = from.1.0; out_after = from.1.1 }
