@@ -31,6 +31,20 @@ pub struct Message {
     pub sent: Moment,
 }
 
+// The four names of a message.
+impl From<Message> for Names {
+    ghost from_gives = { λ m x. x ≡ flight.names_of m };
+
+    fn from(m: Message) -> Names {
+        Names {
+            sender: m.sender,
+            recipient: m.recipient,
+            round: m.round,
+            kind: m.kind,
+        }
+    }
+}
+
 // One more than the largest round that a word holds beside the other names.
 const ROUNDS: u64 = 36_028_797_018_963_968;
 
@@ -102,9 +116,12 @@ fn seek(words: &[u64], count: u64, key: u64) -> u64
     requires { 3 * count ≤ length words.now }
     ensures { result ≡ flight.index_of (flight.unpacked key) (flight.decode count words.now) }
 {
-    (0..count)
-        .find(|&i| words[(3 * i) as usize] == key)
-        .unwrap_or(count)
+    for i in 0..count {
+        if words[(3 * i) as usize] == key {
+            return i;
+        }
+    }
+    count
 }
 
 // The place `near` where the message there has the first word `key`, else what `seek` finds.

@@ -30,21 +30,12 @@ pub fn note_places(words: &[u64], from: u64, to: u64, places: &mut [u64])
     if to > (words.len() / 3) as u64 {
         return;
     }
-    let mut i = from;
-    while i < to {
+    for i in from..to {
         note_place(places, (words[(3 * i) as usize] % 512) as usize, i);
-        i += 1;
     }
 }
 
 // ---- overdue messages
-
-// The earlier of two times.
-fn earlier(a: u64, b: u64) -> u64
-    ensures { result ≡ min a b }
-{
-    if a <= b { a } else { b }
-}
 
 // Notes for each pair of sender and recipient the oldest time sent.
 fn note(words: &[u64], count: u64, oldest: &mut [u64])
@@ -52,11 +43,9 @@ fn note(words: &[u64], count: u64, oldest: &mut [u64])
     requires oldest_len { length oldest.old ≡ 256 }
     ensures { oldest.new ≡ noted count words.now oldest.old }
 {
-    let mut i: u64 = 0;
-    while i < count {
+    for i in 0..count {
         let at = (words[(3 * i) as usize] % 256) as usize;
-        oldest[at] = earlier(oldest[at], words[(3 * i + 2) as usize]);
-        i += 1;
+        oldest[at] = oldest[at].min(words[(3 * i + 2) as usize]);
     }
 }
 
@@ -104,13 +93,7 @@ fn again(words: &[u64], i: u64, key: u64, mark: u8) -> bool
         return false;
     }
     let m = flight::unpack(key, 0, 0);
-    let names = Names {
-        sender: m.sender,
-        recipient: m.recipient,
-        round: m.round,
-        kind: m.kind,
-    };
-    flight::find(words, i, names, &words[..0]) < i
+    flight::find(words, i, Names::from(m), &[]) < i
 }
 
 // Whether two messages in flight agree in all four names. No where the words do not hold so many messages.
@@ -121,15 +104,13 @@ pub fn twins(words: &[u64], count: u64) -> bool
         return false;
     }
     let mut marks = [0u8; 1024];
-    let mut i: u64 = 0;
-    while i < count {
+    for i in 0..count {
         let key = words[(3 * i) as usize];
         let at = (key % 1024) as usize;
         if again(words, i, key, marks[at]) {
             return true;
         }
         marks[at] = 1;
-        i += 1;
     }
     false
 }

@@ -11,4 +11,4 @@ pub returns : goal.returns
 returns c =
     let a = c.args in
     let e = ne_eqb _ _ c.if-mark-eq0.false in
-    rw e (word-found a.i a.words.now _ a.key _ _ c.unpack-m.ensures c.requires c.find.ensures)
+    rw e (word-found a.i a.words.now _ a.key _ _ c.unpack-m.ensures c.requires (rw c.from.ensures at c.find.ensures))

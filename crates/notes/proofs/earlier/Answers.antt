@@ -1,9 +1,0 @@
--- `notes::earlier` is the least of two numbers. Assumes nothing.
-use native.Mathlib.Omega.{arith}
-use Rattle.notes.proofs.earlier.Goals as goal
-
-pub returns-then-a-b : goal.returns-then-a-b
-returns-then-a-b c = omega arith
-
-pub returns-else-a-b : goal.returns-else-a-b
-returns-else-a-b c = omega arith
