@@ -5,24 +5,18 @@
 ghost use Rattle.std.specs.Prelude.{◌≡◌};
 ghost use Rattle.rehearsal.specs.Opening as begin;
 
-use clock::{MAX_SCRIPT, Moment, Reading};
+use clock::{MAX_SCRIPT, Moment};
 use line::Line;
 use run::Part;
 use setup::Plan;
-use station::Station;
 
 // No run: the number that ends the reading, and the line that says so.
 fn ended(answer: u64, next: usize, place: usize) -> Part
     ensures { result ≡ begin.ended answer next place }
 {
-    let table = [Station {
-        round: 0,
-        reading: Reading(0),
-        signed: 0,
-        gathered: 0,
-    }; 12];
+    let stations = [line::no_station(); 12];
     Part {
-        answer: answer,
+        answer,
         line: Line {
             plan: Plan {
                 stations: 0,
@@ -36,12 +30,12 @@ fn ended(answer: u64, next: usize, place: usize) -> Part
             },
             time: Moment(0),
             length: 0,
-            stations: table,
+            stations,
             count: 0,
         },
-        next: next,
+        next,
         number: 0,
-        place: place,
+        place,
     }
 }
 
@@ -65,12 +59,10 @@ pub fn open(bytes: &[u8], out: &mut [u8]) -> Part
         return ended(read.answer, read.next, place);
     }
     let first = read.first;
-    let plan = read.plan;
-    let begun = line::fresh(plan, &first[..plan.stations as usize]);
-    let line = begun.line;
+    let begun = line::fresh(read.plan, &first[..read.plan.stations as usize]);
     Part {
         answer: begun.answer,
-        line: line,
+        line: begun.line,
         next: read.next,
         number: 0,
         place: text::setup_line(begun.answer, out, 0),

@@ -58,7 +58,7 @@ fn part(test: bool, many: u64) -> u64
 fn quiet(o: Outcome) -> bool
     ensures { result ≡ (not o.ready && eqb o.relay 0) }
 {
-    !o.ready & (o.relay == 0)
+    !o.ready && o.relay == 0
 }
 
 // How many messages station i sends to the others when it has done this.
@@ -215,7 +215,7 @@ fn deliver(
 fn unsigned_at(plan: Plan, signed: u64, round: u64, signers: u64, i: u64) -> bool
     ensures { result ≡ hear.unsigned_in plan signed round signers i }
 {
-    mask::has(signers, i) & (line::sound(plan, i) & (signed != round))
+    mask::has(signers, i) && line::sound(plan, i) && signed != round
 }
 
 // Whether some station is. The last signed rounds are lent beside it.
@@ -389,7 +389,7 @@ fn meets_at(plan: Plan, d: u64, by: u64, i: u64, s: Station) -> Meets
     let number = station::refuses(plan, by, s);
     Meets {
         exceeds: number == 12,
-        drifts: line::sound(plan, i) & !clock::in_drift(plan.drift, d, by),
+        drifts: line::sound(plan, i) && !clock::in_drift(plan.drift, d, by),
         passes: number == 14,
     }
 }

@@ -75,8 +75,9 @@ fn play_on(
         number += 1;
         let answer;
         if i >= n {
-            let increments = &read.increments[..n as usize];
-            let p = super::pass(line, words, read.event, increments);
+            // Copied: lent straight, they keep the whole answer out of registers, which is slower.
+            let increments = read.increments;
+            let p = super::pass(line, words, read.event, &increments[..n as usize]);
             notes::note_places(words, line.count, p.line.count, places);
             line = p.line;
             answer = p.answer;

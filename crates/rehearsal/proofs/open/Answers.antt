@@ -1,8 +1,6 @@
 -- `rehearsal::open` answers the setup and writes the first line, each answer at its own test. Assumes nothing.
-use mathlib.Core.Path.{refl, ap, sym, ◌∙◌}
-use native.Mathlib.Omega.{arith}
-use lib.ListN.{length}
-use lib.Seq.{length-take-le}
+use Rattle.std.proofs.Common.{refl, ap, sym, ◌∙◌, length, arith}
+use Rattle.std.proofs.Math.Seq.{length-take-le}
 use Rattle.script.specs.declared.read.SetupRead.{SetupRead}
 use Rattle.script.specs.Read.{read_setup}
 use Rattle.script.proofs.ReadLaws.{first-long, setup-few}
@@ -13,31 +11,29 @@ use Rattle.rehearsal.proofs.open.Goals as goal
 pub returns-then-bytes-gt-MAX_SCRIPT : goal.returns-then-bytes-gt-MAX_SCRIPT
 returns-then-bytes-gt-MAX_SCRIPT c =
     let a = c.args in
-    record { value = (open_is a.bytes.now a.out.now _ (opening-long a.bytes.now (omega arith)) _ _ (c.ended.ensures ∙ rw c.script_line-place.ensures.value refl) c.script_line-place.ensures.out_after).0; out_after = (open_is a.bytes.now a.out.now _ (opening-long a.bytes.now (omega arith)) _ _ (c.ended.ensures ∙ rw c.script_line-place.ensures.value refl) c.script_line-place.ensures.out_after).1 }
+    let is =
+    open_is a.bytes.now a.out.now _ (opening-long a.bytes.now (omega arith)) _ _ (c.ended.ensures ∙ rw c.script_line-place.ensures.value refl)
+    c.script_line-place.ensures.out_after in
+    record { value = is.0; out_after = is.1 }
 
 pub returns-then-read-eq1 : goal.returns-then-read-eq1
 returns-then-read-eq1 c =
     let a = c.args in
     let read = c.read_setup-read in
-    record {
-      value = (open_is a.bytes.now a.out.now _ (opening-one a.bytes.now (omega arith) read.result read.ensures c.if-read-eq1.true) _ _
-          (c.ended-then-read-eq1.ensures ∙ rw c.setup_line-place.ensures.value refl) c.setup_line-place.ensures.out_after).0;
-      out_after = (open_is a.bytes.now a.out.now _ (opening-one a.bytes.now (omega arith) read.result read.ensures c.if-read-eq1.true) _ _
-          (c.ended-then-read-eq1.ensures ∙ rw c.setup_line-place.ensures.value refl) c.setup_line-place.ensures.out_after).1;
-    }
+    let is =
+    open_is a.bytes.now a.out.now _ (opening-one a.bytes.now (omega arith) read.result read.ensures c.if-read-eq1.true) _ _
+    (c.ended-then-read-eq1.ensures ∙ rw c.setup_line-place.ensures.value refl) c.setup_line-place.ensures.out_after in
+    record { value = is.0; out_after = is.1 }
 
 pub returns-then-read-ne0 : goal.returns-then-read-ne0
 returns-then-read-ne0 c =
     let a = c.args in
     let read = c.read_setup-read in
-    record {
-      value = (open_is a.bytes.now a.out.now _
-          (opening-stops a.bytes.now (omega arith) read.result read.ensures c.if-read-eq1.false c.if-read-ne0.true) _ _
-          (c.ended-then-read-ne0.ensures ∙ rw c.script_line-place-then-read-ne0.ensures.value refl) c.script_line-place-then-read-ne0.ensures.out_after).0;
-      out_after = (open_is a.bytes.now a.out.now _
-          (opening-stops a.bytes.now (omega arith) read.result read.ensures c.if-read-eq1.false c.if-read-ne0.true) _ _
-          (c.ended-then-read-ne0.ensures ∙ rw c.script_line-place-then-read-ne0.ensures.value refl) c.script_line-place-then-read-ne0.ensures.out_after).1;
-    }
+    let is =
+    open_is a.bytes.now a.out.now _
+    (opening-stops a.bytes.now (omega arith) read.result read.ensures c.if-read-eq1.false c.if-read-ne0.true) _ _
+    (c.ended-then-read-ne0.ensures ∙ rw c.script_line-place-then-read-ne0.ensures.value refl) c.script_line-place-then-read-ne0.ensures.out_after in
+    record { value = is.0; out_after = is.1 }
 
 pub slice_bounds-first-end : goal.slice_bounds-first-end
 slice_bounds-first-end c =
