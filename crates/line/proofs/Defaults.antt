@@ -1,5 +1,5 @@
 -- A record with nothing in it, as the library makes it by default: each field of it is zero.
-use Rattle.std.proofs.Common.{ℕ, ◌<◌, List, ◌≡◌, sym, ◌∙◌, arith, ext_get_or}
+use Rattle.std.proofs.Common.{◌<◌, List, ◌≡◌, sym, ◌∙◌, arith, ext_get_or}
 use Rattle.std.specs.Array.{AllOfLen}
 use Rattle.std.proofs.lemmas.List.{get_or-replicate}
 use Rattle.station.specs.declared.Station.{Station}

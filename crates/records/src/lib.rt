@@ -237,7 +237,7 @@ impl Sheet {
         let all = placed(self.count);
         let mut count = 0;
         for &m in &self.messages[..all] {
-            count = flight::send(words, count, m, mask::only(m.recipient)).count;
+            count = flight::send(words, count, m, mask::only(m.recipient)).unwrap_or(count);
         }
         count == all as u64
     }

@@ -5,34 +5,17 @@
 ghost use Rattle.std.specs.Prelude.{◌≡◌};
 ghost use Rattle.rehearsal.specs.Opening as begin;
 
-use clock::{MAX_SCRIPT, Moment};
+use clock::MAX_SCRIPT;
 use line::Line;
 use run::Part;
-use setup::Plan;
 
 // No run: the number that ends the reading, and the line that says so.
 fn ended(answer: u64, next: usize, place: usize) -> Part
     ensures { result ≡ begin.ended answer next place }
 {
-    let stations = [line::no_station(); 12];
     Part {
         answer,
-        line: Line {
-            plan: Plan {
-                stations: 0,
-                faults: 0,
-                drift: 0,
-                bound: 0,
-                spread: 0,
-                step: 0,
-                period: 0,
-                faulty: 0,
-            },
-            time: Moment(0),
-            length: 0,
-            stations,
-            count: 0,
-        },
+        line: Line::default(),
         next,
         number: 0,
         place,

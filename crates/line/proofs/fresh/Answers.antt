@@ -1,12 +1,8 @@
 -- `line::fresh` answers `begun`: the setup's number and no run, or the run at its beginning. Assumes nothing.
-use Rattle.std.proofs.Common.{ℕ, ◌<◌, List, ◌≡◌, refl, sym, ap, ◌∙◌, arith, ext_get_or}
-use Rattle.std.specs.Array.{AllOfLen}
-use Rattle.std.proofs.lemmas.List.{get_or-replicate}
-use Rattle.station.specs.declared.Station.{Station}
-use Rattle.setup.specs.declared.Plan.{Plan}
+use Rattle.std.proofs.Common.{ℕ, ◌≡◌, refl, ap, ◌∙◌}
 use Rattle.line.specs.declared.Line.{Line}
 use Rattle.model.specs.Run.{no_station}
-use Rattle.line.specs.Fresh.{begun-no, begun-few, begun-yes, line_for, no_plan, no_stations}
+use Rattle.line.specs.Fresh.{begun-no, begun-few, begun-yes, line_for}
 use Rattle.line.proofs.Defaults.{default-line}
 use Rattle.line.proofs.fresh.Goals as goal
 
