@@ -1,11 +1,23 @@
--- `text::put_word` lays the bytes. Assumes nothing.
-use Rattle.std.proofs.Common.{◌+◌, arith, append_assoc, length, refl}
+-- `text::put_word` lays the bytes one behind the other. Assumes nothing.
+use Rattle.std.proofs.Common.{ℕ, ◌+◌, ◌∙◌, ◌≡◌, ap, sym, arith, take, length, get_or, add-one, take-suc, length-take}
 use Rattle.number.specs.Number.{laid}
-use borrow.Rule.Slice.PartMut.{Post-is}
+use Rattle.number.proofs.Laws.{laid_none}
+use Rattle.text.proofs.Laws.{laid_one, laid_both}
+use Rattle.std.proofs.lemmas.List.{take_all}
 use Rattle.text.proofs.put_word.Goals as goal
 
-pub returns-clause-out_after : goal.returns-clause-out_after
-unfolding laid
-returns-clause-out_after c =
+pub loop-i-init : goal.loop-i-init
+loop-i-init c = sym (laid_none c.args.out.now c.args.at)
+
+pub loop-i-preserved : goal.loop-i-preserved
+loop-i-preserved c =
     let a = c.args in
-    rw (c.copy_from_slice.ensures.after, Post-is a.at (a.at + length a.word.now) a.out.now (omega arith), append_assoc) refl
+    let i : ℕ = c.loop-i.i in
+    let few : length (take i a.word.now) ≡ i = length-take i a.word.now ∙ omega arith in
+    let one = laid_one c.loop-i.out (a.at + i) (get_or a.word.now i 0) (omega (arith, c.requires)) in
+    let both = laid_both a.out.now a.at (take i a.word.now) _ (omega (arith, few, c.requires)) c.loop-i.invariant (omega (arith, few)) one in
+    both ∙ ap (laid a.out.now a.at) (sym (ap (λ (k : ℕ). take k a.word.now) (add-one i) ∙ take-suc a.word.now i 0 (omega arith)))
+
+pub returns-clause-out_after : goal.returns-clause-out_after
+returns-clause-out_after c =
+    c.loop-i.invariant ∙ ap (laid c.args.out.now c.args.at) (take_all c.loop-i.i c.args.word.now c.loop-i-test.false)
