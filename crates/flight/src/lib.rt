@@ -116,6 +116,7 @@ fn seek(words: &[u64], count: u64, key: u64) -> u64
     requires { 3 * count ≤ length words.now }
     ensures { result ≡ flight.index_of (flight.unpacked key) (flight.decode count words.now) }
 {
+    // `find` over the places is slower.
     for i in 0..count {
         if words[(3 * i) as usize] == key {
             return i;

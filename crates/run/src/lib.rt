@@ -223,11 +223,7 @@ fn some_unsigned(plan: Plan, signed: &[u64], round: u64, signers: u64) -> bool
     requires { plan.stations ≤ length signed.now }
     ensures { result ≡ some_station (hear.unsigned_by plan signed.now round signers) plan.stations }
 {
-    let mut bad = false;
-    for i in 0..plan.stations {
-        bad |= unsigned_at(plan, signed[i as usize], round, signers, i);
-    }
-    bad
+    (0..plan.stations).any(|i| unsigned_at(plan, signed[i as usize], round, signers, i))
 }
 
 // Whether a signature that the send needs was not made; those of another round than the one waited for need none.

@@ -1,18 +1,16 @@
--- `run::some_unsigned` says whether some station is a sound signer that did not sign: after i turns `bad` says it of the first i.
--- Assumes nothing.
-use Rattle.std.proofs.Common.{◌≡◌, ap, sym, ◌∙◌, arith}
-use Rattle.line.specs.Record.{some_station}
-use Rattle.line.specs.HeldLaws.{some-none, some_more}
-use Rattle.run.specs.Hearing.{unsigned_by, unsigned-one}
+-- `run::some_unsigned` says whether some station is a sound signer that did not sign: `any` asks `unsigned_at` of each. Assumes
+-- nothing.
+use Rattle.std.proofs.Common.{◌∙◌, refl, arith, rules, tests}
+use Rattle.std.proofs.lemmas.Iterator.{YieldsList-from_range}
+use Rattle.std.proofs.lemmas.Iterator.Search.{any_from_yields_List}
+use Rattle.line.specs.HeldLaws.{any-some_station}
+use Rattle.run.specs.Hearing.{unsigned_by}
 use Rattle.run.proofs.some_unsigned.Goals as goal
 
-pub loop-i-init : goal.loop-i-init
-loop-i-init c = sym (some-none _)
-
-pub loop-i-preserved : goal.loop-i-preserved
-loop-i-preserved c = some_more (unsigned_by _ _ _ _) _ c.loop-i.invariant (c.unsigned_at-bad.ensures ∙ unsigned-one _ _ _ _ _)
-
 pub returns : goal.returns
+unfolding unsigned_by
 returns c =
-    let s : c.loop-i.i ≡ c.args.plan.stations = omega arith in
-    c.loop-i.invariant ∙ ap (some_station _) s
+    let a = c.args in
+    any_from_yields_List (unsigned_by a.plan a.signed.now a.round a.signers) _ _ _ c.any.ensures.ran
+    (YieldsList-from_range 0 a.plan.stations a.plan.stations refl (omega arith)) (λ x b q k. search (rules, tests))
+    ∙ any-some_station _ _
