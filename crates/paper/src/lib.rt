@@ -30,7 +30,7 @@ pub fn read_full<R: Read>(input: &mut R, buffer: &mut [u8]) -> Result<usize>
     Ok(done)
 }
 
-// Prints the first `count` bytes.
+// Prints the first `count` bytes. No slice of them: a part of `run` has the buffer and a place in it.
 pub fn print(rt: &impl Print, out: &[u8], count: usize) -> Result<()> {
     if count <= out.len() {
         std::io::writer(rt).write_all(&out[..count])?;

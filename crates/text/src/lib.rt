@@ -1,5 +1,6 @@
 // The lines of a rehearsal as bytes, laid into a lent buffer. Each function answers the place behind what it wrote; where the
-// buffer has no room for the longest line, nothing is written and the place is as it was.
+// buffer has no room for the longest line, nothing is written and the place is as it was. Buffer and place are no struct: the
+// statements of `run` and `rehearsal` are on the two.
 #![tactic(auto)]
 
 ghost use Rattle.std.specs.Prelude.{◌≡◌, ◌+◌, ◌<◌, ◌≤◌, length, []};
