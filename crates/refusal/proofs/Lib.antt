@@ -1,0 +1,2 @@
+-- What follows of the numbers.
+pub mod Laws

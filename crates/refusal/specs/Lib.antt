@@ -1,0 +1,2 @@
+-- The numbers that a caller gets back.
+pub mod Refusal
