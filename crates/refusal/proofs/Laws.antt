@@ -1,6 +1,6 @@
 -- A number has one refusal: it can be named again.
 use Rattle.std.specs.Prelude.{ℕ, ◌≡◌, refl, Bool, true, false, eqb}
-use Rattle.std.proofs.Common.{sym, ap, ◌∙◌}
+use Rattle.std.proofs.Common.{sym, ap, ◌∙◌, arith}
 use Rattle.refusal.specs.declared.Refusal.{Refusal}
 use Rattle.refusal.specs.declared.Refusal.TheVariants.{Stations, Faults, Limits, Marks, Gap, Step, Spread, First, Record, Barred, Exceeds, Drifts, Passes, Overdue, NoMessage, SoundSender, Unsigned, Full, Cut, LastZero, TenthByte, Kind, Short, Long, NotSound, Rounds}
 use Rattle.refusal.specs.Refusal.{number}
@@ -70,3 +70,32 @@ named-number Rounds = refl
 -- two refusals of one number are one
 pub number-one : (r s : Refusal) → number r ≡ number s → r ≡ s
 number-one r s e = sym (named-number r) ∙ ap named e ∙ named-number s
+
+-- no refusal's number is 0
+pub refused : (r : Refusal) → number r ≡ 0 → ⊥
+refused Stations e = absurd (omega (arith, e))
+refused Faults e = absurd (omega (arith, e))
+refused Limits e = absurd (omega (arith, e))
+refused Marks e = absurd (omega (arith, e))
+refused Gap e = absurd (omega (arith, e))
+refused Step e = absurd (omega (arith, e))
+refused Spread e = absurd (omega (arith, e))
+refused First e = absurd (omega (arith, e))
+refused Record e = absurd (omega (arith, e))
+refused Barred e = absurd (omega (arith, e))
+refused Exceeds e = absurd (omega (arith, e))
+refused Drifts e = absurd (omega (arith, e))
+refused Passes e = absurd (omega (arith, e))
+refused Overdue e = absurd (omega (arith, e))
+refused NoMessage e = absurd (omega (arith, e))
+refused SoundSender e = absurd (omega (arith, e))
+refused Unsigned e = absurd (omega (arith, e))
+refused Full e = absurd (omega (arith, e))
+refused Cut e = absurd (omega (arith, e))
+refused LastZero e = absurd (omega (arith, e))
+refused TenthByte e = absurd (omega (arith, e))
+refused Kind e = absurd (omega (arith, e))
+refused Short e = absurd (omega (arith, e))
+refused Long e = absurd (omega (arith, e))
+refused NotSound e = absurd (omega (arith, e))
+refused Rounds e = absurd (omega (arith, e))

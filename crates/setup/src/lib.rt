@@ -4,8 +4,11 @@
 
 ghost use Rattle.std.specs.Prelude.{◌≡◌, length};
 ghost use Rattle.clock.specs.Tests.{some_to};
+ghost use Rattle.refusal.specs.Refusal as given;
 ghost use Rattle.setup.specs.Setup as rule;
 ghost use Rattle.setup.specs.Laws.{InLimits};
+
+use refusal::Refusal;
 
 // What a setup names beside its first readings: document 01's n, f, r, T, D, A, P and the mask of faulty stations.
 #[derive(Clone, Copy, Default)]
@@ -113,48 +116,45 @@ impl Limited {
 
 // The answer to a plan, first readings apart: 1 to 7, or 0.
 #[tactic(auto, unfolding(crate::specs::Setup::plan_answer, crate::specs::Setup::bad_stations))]
-pub fn plan_answer(plan: Plan) -> u64
-    ensures { result ≡ rule.plan_answer plan }
+pub fn plan_answer(plan: Plan) -> Result<(), Refusal>
+    ensures { given.answer result ≡ rule.plan_answer plan }
 {
     if clock::outside(1, clock::MAX_STATIONS, plan.stations) {
-        return 1;
+        return Err(Refusal::Stations);
     }
     if bad_faults(plan) {
-        return 2;
+        return Err(Refusal::Faults);
     }
     if bad_limits(plan) {
-        return 3;
+        return Err(Refusal::Limits);
     }
     if bad_marks(plan) {
-        return 4;
+        return Err(Refusal::Marks);
     }
     let limited = Limited { plan };
     if !limited.gap() {
-        return 5;
+        return Err(Refusal::Gap);
     }
     if !limited.steps() {
-        return 6;
+        return Err(Refusal::Step);
     }
     if !limited.spreads() {
-        return 7;
+        return Err(Refusal::Spread);
     }
-    0
+    Ok(())
 }
 
 // The answer to a setup: 1 to 8, or 0.
-pub fn answer(plan: Plan, first: &[u64]) -> u64
-    ensures { result ≡ rule.setup_answer plan first.now }
+pub fn answer(plan: Plan, first: &[u64]) -> Result<(), Refusal>
+    ensures { given.answer result ≡ rule.setup_answer plan first.now }
 {
-    let number = plan_answer(plan);
-    if number != 0 {
-        return number;
-    }
+    plan_answer(plan)?;
     if first.len() as u64 != plan.stations {
-        return 8;
+        return Err(Refusal::First);
     }
     let limited = Limited { plan };
     if limited.some_bad_first(first) {
-        return 8;
+        return Err(Refusal::First);
     }
-    0
+    Ok(())
 }

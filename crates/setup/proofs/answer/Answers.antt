@@ -11,6 +11,8 @@ use Rattle.clock.specs.Tests.{some_to}
 use Rattle.setup.specs.declared.Plan.{Plan}
 use Rattle.setup.specs.Setup.{plan_answer, bad_first, first_answer, setup_answer}
 use Rattle.setup.specs.Laws.{planned}
+use Rattle.std.proofs.lemmas.Result.{err_from_is_err_and}
+use Rattle.refusal.proofs.Laws.{refused}
 use Rattle.setup.proofs.answer.Goals as goal
 
 -- another number of first readings than n
@@ -25,23 +27,23 @@ unfolding setup_answer first_answer
 same s l b e n h =
     or_else-rest _ _ e ∙ simp (eq-eqb _ _ n) (ap (λ (x : Bool). refuse x 8 0) (ap (some_to (bad_first s) l) (sym n) ∙ h))
 
-pub returns-then-number-ne0 : goal.returns-then-number-ne0
+pub returns-in_err-plan_answer : goal.returns-in_err-plan_answer
 unfolding setup_answer
-returns-then-number-ne0 c = c.plan_answer-number.ensures ∙ sym (or_else-first _ _ (λ e. c.if-number-ne0.true (c.plan_answer-number.ensures ∙ e)))
+returns-in_err-plan_answer c =
+    let p = err_from_is_err_and c.from_residual.result c.from_residual.ensures.1 in
+    let e = c.in_err-plan_answer.ensures in
+    rw (p.1, p.2) (e ∙ sym (or_else-first _ _ (λ z. refused _ (e ∙ z))))
 
 pub returns-then-first-plan : goal.returns-then-first-plan
-returns-then-first-plan c = sym (others _ _ (sym c.plan_answer-number.ensures ∙ c.if-number-ne0.false)
-    c.if-first-plan.true)
+returns-then-first-plan c = sym (others _ _ (sym c.in_ok-plan_answer.ensures) c.if-first-plan.true)
 
 pub invariant_of-limited : goal.invariant_of-limited
-invariant_of-limited c = record { in_limits = (planned _ (sym c.plan_answer-number.ensures ∙ c.if-number-ne0.false)).limits }
+invariant_of-limited c = record { in_limits = (planned _ (sym c.in_ok-plan_answer.ensures)).limits }
 
 pub returns-then-some_bad_first : goal.returns-then-some_bad_first
-returns-then-some_bad_first c = sym (same _ _ true (sym c.plan_answer-number.ensures
-    ∙ c.if-number-ne0.false) c.if-first-plan.false (sym
+returns-then-some_bad_first c = sym (same _ _ true (sym c.in_ok-plan_answer.ensures) c.if-first-plan.false (sym
     c.some_bad_first.ensures ∙ c.if-some_bad_first.true))
 
 pub returns : goal.returns
-returns c = sym (same _ _ false (sym c.plan_answer-number.ensures
-    ∙ c.if-number-ne0.false) c.if-first-plan.false (sym
+returns c = sym (same _ _ false (sym c.in_ok-plan_answer.ensures) c.if-first-plan.false (sym
     c.some_bad_first.ensures ∙ c.if-some_bad_first.false))
