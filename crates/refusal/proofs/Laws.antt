@@ -1,9 +1,9 @@
 -- A number has one refusal: it can be named again.
-use Rattle.std.specs.Prelude.{ℕ, ◌≡◌, refl, Bool, true, false, eqb}
+use Rattle.std.specs.Prelude.{ℕ, ◌≡◌, refl, Bool, true, false, eqb, Result, Ok, Err, is_err}
 use Rattle.std.proofs.Common.{sym, ap, ◌∙◌, arith}
 use Rattle.refusal.specs.declared.Refusal.{Refusal}
 use Rattle.refusal.specs.declared.Refusal.TheVariants.{Stations, Faults, Limits, Marks, Gap, Step, Spread, First, Record, Barred, Exceeds, Drifts, Passes, Overdue, NoMessage, SoundSender, Unsigned, Full, Cut, LastZero, TenthByte, Kind, Short, Long, NotSound, Rounds}
-use Rattle.refusal.specs.Refusal.{number}
+use Rattle.refusal.specs.Refusal.{number, answer}
 
 choose : Bool → Refusal → Refusal → Refusal
 choose true a b = a
@@ -99,3 +99,19 @@ refused Short e = absurd (omega (arith, e))
 refused Long e = absurd (omega (arith, e))
 refused NotSound e = absurd (omega (arith, e))
 refused Rounds e = absurd (omega (arith, e))
+
+bit : Bool → ℕ
+bit true = 1
+bit false = 0
+
+module _ {A : Type 0} where
+  -- what is no error is answered with 0, and what is one is not
+  pub ok-zero : (r : Result A Refusal) → is_err r ≡ false → answer r ≡ 0
+  unfolding bit
+  ok-zero (Ok x) e = refl
+  ok-zero (Err r) e = absurd (omega (arith, ap bit e))
+
+  pub err-number : (r : Result A Refusal) → is_err r ≡ true → answer r ≡ 0 → ⊥
+  unfolding bit
+  err-number (Ok x) e = absurd (omega (arith, ap bit e))
+  err-number (Err r) e = refused r

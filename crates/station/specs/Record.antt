@@ -1,14 +1,15 @@
 -- The rules of a sound station's record, document 01, "Record rules", and the answers of a board's two doors.
-use Rattle.std.specs.Prelude.{ℕ, ◌+◌, Bool, ◌&&◌, ◌||◌, not, ltb, leb, eqb}
+use Rattle.std.specs.Prelude.{ℕ, Result, Ok, Err, ◌+◌, Bool, ◌&&◌, ◌||◌, not, ltb, leb, eqb}
 use Rattle.clock.specs.Limits.{max_round, max_reading, max_increment, max_period, max_step}
 use Rattle.clock.specs.Pick.{pick, refuse}
 use Rattle.clock.specs.Tests.{outside}
 use Rattle.mask.specs.Mask.{has, count, below}
+use Rattle.refusal.specs.declared.Refusal.{Refusal}
+use Rattle.refusal.specs.Refusal.{number}
 use Rattle.setup.specs.declared.Plan.{Plan}
 use Rattle.setup.specs.Setup.{plan_answer}
 use Rattle.station.specs.declared.Station.{Station}
 use Rattle.station.specs.declared.Outcome.{Outcome}
-use Rattle.station.specs.declared.Board.{Board}
 use Rattle.station.specs.Station.{waits, mark_for, still, passes}
 
 -- round, reading and last signed round within their limits
@@ -44,9 +45,19 @@ past_limits plan = ltb max_period plan.period || ltb max_step plan.step
 unfoldable pub bad_board : Plan → Station → Bool
 bad_board plan s = not (eqb (plan_answer plan) 0) || bad_station plan s
 
+-- a board's answer: 0, or the number that refuses, and the outcome
+pub record Board : Type 0 where
+  pub answer : ℕ
+  pub outcome : Outcome
+
+-- the outcome of a refusal is the station as it was
+abbrev pub as_board : Station → Result Outcome Refusal → Board
+as_board s (Ok o) = record { answer = 0; outcome = o }
+as_board s (Err r) = record { answer = number r; outcome = still s }
+
 -- what a board answers: a number, and where it is 0 what the station then does
 unfoldable pub answered : ℕ → Station → Outcome → Board
-answered number s outcome = record { answer = number; outcome = pick (eqb number 0) outcome (still s) }
+answered k s outcome = record { answer = k; outcome = pick (eqb k 0) outcome (still s) }
 
 -- hearing: 10, then 11 for a round outside 1 to 1,000,000, an empty mask or one with a bit at n or above
 unfoldable pub hear_answer : Plan → ℕ → ℕ → Station → ℕ

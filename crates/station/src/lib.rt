@@ -4,12 +4,14 @@
 
 ghost use Rattle.std.specs.Prelude.{◌≡◌, ◌||◌};
 ghost use Rattle.clock.specs.Pick.{pick};
+ghost use Rattle.refusal.specs.Refusal as given;
 ghost use Rattle.station.specs.Station as rule;
 ghost use Rattle.station.specs.Record as board;
 ghost use Rattle.station.specs.Limits as limit;
 ghost use Rattle.station.specs.Limits.{Small, Steady};
 
 use clock::{MAX_INCREMENT, MAX_PERIOD, MAX_READING, MAX_ROUND, MAX_STEP, Reading};
+use refusal::Refusal;
 use setup::Plan;
 
 // A station: its round, what its clock shows, the last round it signed (0: none) and the signers it has gathered for the
@@ -29,13 +31,6 @@ pub struct Outcome {
     pub station: Station,
     pub ready: bool,
     pub relay: u64,
-}
-
-// A board's answer: 0, or the number that refuses; the outcome of a refusal is the station as it was.
-#[derive(Clone, Copy)]
-pub struct Board {
-    pub answer: u64,
-    pub outcome: Outcome,
 }
 
 // The station as it is.
@@ -232,21 +227,21 @@ pub fn advanced(plan: Plan, i: u64, by: u64, s: Station) -> Outcome
     moving.go_on(i)
 }
 
-// Why an increment is refused: 12, then 14; 0 where it is not. Past the limits, 12.
-pub fn refuses(plan: Plan, by: u64, s: Station) -> u64
-    ensures { result ≡ pick (limit.steady plan by s) (board.move_answer plan by s) 12 }
+// Why an increment is refused: 12, then 14. Past the limits, 12.
+pub fn refuses(plan: Plan, by: u64, s: Station) -> Result<(), Refusal>
+    ensures { given.answer result ≡ pick (limit.steady plan by s) (board.move_answer plan by s) 12 }
 {
     if !steady(plan, by, s) {
-        return 12;
+        return Err(Refusal::Exceeds);
     }
     let moving = Moving { plan, by, s };
     if moving.exceeds() {
-        return 12;
+        return Err(Refusal::Exceeds);
     }
     if moving.passes() {
-        return 14;
+        return Err(Refusal::Passes);
     }
-    0
+    Ok(())
 }
 
 // Whether round, reading or last signed round is past its limit.
@@ -284,61 +279,37 @@ pub fn bad_station(plan: Plan, s: Station) -> bool
 fn bad_board(plan: Plan, s: Station) -> bool
     ensures { result ≡ board.bad_board plan s }
 {
-    if setup::plan_answer(plan) != 0 {
+    if setup::plan_answer(plan).is_err() {
         return true;
     }
     bad_station(plan, s)
 }
 
 // A board hears signatures of a round: 10, then 11, else what the station does.
-pub fn hear(plan: Plan, round: u64, signers: u64, s: Station) -> Board
-    ensures { result ≡ board.answered (board.hear_answer plan round signers s) s (rule.hear plan round signers s) }
+pub fn hear(plan: Plan, round: u64, signers: u64, s: Station) -> Result<Outcome, Refusal>
+    ensures { board.as_board s result ≡ board.answered (board.hear_answer plan round signers s) s (rule.hear plan round signers s) }
 {
     if bad_board(plan, s) {
-        return Board {
-            answer: 10,
-            outcome: still(s),
-        };
+        return Err(Refusal::Record);
     }
     if clock::outside(1, MAX_ROUND, round) | (signers == 0) | !mask::below(signers, plan.stations) {
-        return Board {
-            answer: 11,
-            outcome: still(s),
-        };
+        return Err(Refusal::Barred);
     }
     let limited = Limited { plan, s };
-    Board {
-        answer: 0,
-        outcome: limited.gather(round, signers),
-    }
+    Ok(limited.gather(round, signers))
 }
 
 // A board's clock goes on by an increment: 10, 11, 12, 14, else what the station does.
-pub fn advance(plan: Plan, i: u64, by: u64, s: Station) -> Board
-    ensures { result ≡ board.answered (board.advance_answer plan i by s) s (rule.advance plan i by s) }
+pub fn advance(plan: Plan, i: u64, by: u64, s: Station) -> Result<Outcome, Refusal>
+    ensures { board.as_board s result ≡ board.answered (board.advance_answer plan i by s) s (rule.advance plan i by s) }
 {
     if bad_board(plan, s) {
-        return Board {
-            answer: 10,
-            outcome: still(s),
-        };
+        return Err(Refusal::Record);
     }
     if (plan.stations <= i) | mask::has(plan.faulty, i) | (MAX_INCREMENT < by) {
-        return Board {
-            answer: 11,
-            outcome: still(s),
-        };
+        return Err(Refusal::Barred);
     }
-    let number = refuses(plan, by, s);
-    if number != 0 {
-        return Board {
-            answer: number,
-            outcome: still(s),
-        };
-    }
+    refuses(plan, by, s)?;
     let moving = Moving { plan, by, s };
-    Board {
-        answer: 0,
-        outcome: moving.go_on(i),
-    }
+    Ok(moving.go_on(i))
 }

@@ -1,5 +1,5 @@
 -- `station::advance` answers a board: 10, 11, 12, 14, else what the station does. Assumes nothing.
-use mathlib.Core.Path.{◌≡◌, sym, ◌∙◌}
+use mathlib.Core.Path.{refl, ◌≡◌, sym, ◌∙◌}
 use native.Mathlib.Omega.{arith}
 use mathlib.Core.Bool.{Bool, false, ◌||◌}
 use lib.Dec.{ltb, leb}
@@ -12,6 +12,8 @@ use Rattle.station.specs.Record.{advance_answer, bad_board}
 use Rattle.station.specs.Laws.{sound-small, answered-no, answered-yes}
 use Rattle.setup.specs.declared.Plan.{Plan}
 use Rattle.station.specs.declared.Station.{Station}
+use Rattle.std.proofs.lemmas.Result.{err_from_is_err_and}
+use Rattle.refusal.proofs.Laws.{refused}
 use Rattle.station.proofs.advance.Goals as goal
 
 -- past 10 and 11 every number is within its limit
@@ -24,7 +26,7 @@ within plan by s e rest f =
 pub returns-then-bad_board : goal.returns-then-bad_board
 unfolding advance_answer
 returns-then-bad_board c = answered-no 10 _ _ _ _ (rw (sym c.bad_board.ensures ∙ c.if-bad_board.true))
-    (λ z. omega arith) c.still.ensures
+    (λ z. omega arith) refl
 
 pub returns-then-plan-i : goal.returns-then-plan-i
 unfolding advance_answer
@@ -34,24 +36,24 @@ returns-then-plan-i c = answered-no 11 _ _ _ _ (rw (
   ← c.has.ensures,
   c.if-plan-i.true,
 ))
-    (λ z. omega arith) c.still-then-plan-i.ensures
+    (λ z. omega arith) refl
 
-pub returns-then-number-ne0 : goal.returns-then-number-ne0
+pub returns-in_err-refuses : goal.returns-in_err-refuses
 unfolding advance_answer
-returns-then-number-ne0 c =
+returns-in_err-refuses c =
     let a = c.args in
     let w = within a.plan a.by a.s (sym
     c.bad_board.ensures
     ∙ c.if-bad_board.false) (leb a.plan.stations
     a.i || c.has.result) c.if-plan-i.false in
-    answered-no _ _ _ _ _ (rw (
+    let p = err_from_is_err_and c.from_residual.result c.from_residual.ensures.1 in
+    rw (p.1, p.2) (answered-no _ _ _ _ _ (rw (
       (sym c.bad_board.ensures
           ∙ c.if-bad_board.false),
       ← c.has.ensures,
       c.if-plan-i.false,
     ) (sym (rw (is-steady
-    a.plan a.by a.s w) at c.refuses-number.ensures))) c.if-number-ne0.true
-    c.still-then-number-ne0.ensures
+    a.plan a.by a.s w) at c.in_err-refuses.ensures))) (refused _) refl)
 
 pub invariant_of-moving : goal.invariant_of-moving
 invariant_of-moving c =
@@ -76,4 +78,4 @@ returns c =
       ← c.has.ensures,
       c.if-plan-i.false,
     ) (sym (rw (is-steady
-    a.plan a.by a.s w) at c.refuses-number.ensures) ∙ c.if-number-ne0.false)) c.go_on.ensures
+    a.plan a.by a.s w) at c.in_ok-refuses.ensures))) c.go_on.ensures

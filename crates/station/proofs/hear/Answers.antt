@@ -1,5 +1,5 @@
 -- `station::hear` answers a board: 10, then 11, else what the station does. Assumes nothing.
-use mathlib.Core.Path.{sym, ◌∙◌}
+use mathlib.Core.Path.{refl, sym, ◌∙◌}
 use native.Mathlib.Omega.{arith}
 use Rattle.station.specs.Record.{hear_answer}
 use Rattle.station.specs.Laws.{sound-small, answered-no, answered-yes}
@@ -8,7 +8,7 @@ use Rattle.station.proofs.hear.Goals as goal
 pub returns-then-bad_board : goal.returns-then-bad_board
 unfolding hear_answer
 returns-then-bad_board c = answered-no 10 _ _ _ _ (rw (sym c.bad_board.ensures ∙ c.if-bad_board.true))
-    (λ z. omega arith) c.still.ensures
+    (λ z. omega arith) refl
 
 pub returns-then-outside-signers : goal.returns-then-outside-signers
 unfolding hear_answer
@@ -18,7 +18,7 @@ returns-then-outside-signers c = answered-no 11 _ _ _ _ (rw (
   ← c.outside.ensures,
   ← c.below.ensures,
   c.if-outside-signers.true,
-)) (λ z. omega arith) c.still-then-outside-signers.ensures
+)) (λ z. omega arith) refl
 
 pub invariant_of-limited : goal.invariant_of-limited
 invariant_of-limited c = record {
