@@ -1,16 +1,17 @@
 -- A fresh run as the code makes it from a setup: 1 to 8, or a run whose model is document 01's fresh run.
-use Rattle.std.specs.Prelude.{ℕ, zero, suc, ◌≤◌, ◌<◌, List, [], ◌≡◌, refl, eqb, length, get_or, set, replicate}
+use Rattle.std.specs.Prelude.{ℕ, Result, Ok, Err, zero, suc, ◌≤◌, ◌<◌, List, [], ◌≡◌, refl, eqb, length, get_or, set, replicate}
 use Rattle.std.proofs.Common.{sym, ◌∙◌, arith, length-set, get_or-set_same, get_or-set_other, ext_get_or}
 use Rattle.std.proofs.Math.Decide.{dec_lt}
 use borrow.Author.Tests.{eq-eqb, ne_eqb}
 use Rattle.clock.specs.Pick.{pick}
+use Rattle.refusal.specs.declared.Refusal.{Refusal}
+use Rattle.refusal.specs.Refusal.{number}
 use Rattle.setup.specs.declared.Plan.{Plan}
 use Rattle.setup.specs.Setup.{setup_answer}
 use Rattle.setup.specs.Laws.{planned, accepted}
 use Rattle.station.specs.declared.Station.{Station}
 use Rattle.flight.specs.Message.{decode}
 use Rattle.line.specs.declared.Line.{Line}
-use Rattle.line.specs.declared.Begun.{Begun}
 use Rattle.model.specs.Run.{no_station, fresh_station, fresh_stations, fresh}
 use Rattle.model.proofs.Valid.{fresh_at, fresh-length}
 use Rattle.line.specs.Held.{first_of, run_of}
@@ -32,6 +33,15 @@ line_for plan n table = record { plan = plan; time = record { 0 = 0 }; length = 
 -- nothing planned
 abbrev pub no_plan : Plan
 no_plan = record { stations = 0; faults = 0; drift = 0; bound = 0; spread = 0; step = 0; period = 0; faulty = 0 }
+
+-- the answer to a setup: 0 with the run at its beginning, or 1 to 8 and no run
+pub record Begun : Type 0 where
+  pub answer : ℕ
+  pub line : Line
+
+abbrev pub as_begun : Result Line Refusal → Begun
+as_begun (Ok l) = record { answer = 0; line = l }
+as_begun (Err r) = record { answer = number r; line = line_for no_plan 0 no_stations }
 
 -- a refused setup yields no run
 unfoldable pub begun : Plan → List ℕ → Begun

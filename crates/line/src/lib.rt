@@ -13,6 +13,7 @@ ghost use Rattle.line.specs.Fresh as begin;
 
 use clock::{MAX_FLIGHT, MAX_ROUND, MAX_STATIONS, MAX_TIME, Moment, Reading};
 use flight::Message;
+use refusal::Refusal;
 use setup::Plan;
 use station::Station;
 
@@ -28,13 +29,6 @@ pub struct Line {
 }
 
 // ---- a fresh run
-
-// The answer to a setup: 0 with the run at its beginning, or 1 to 8 and no run.
-#[derive(Clone, Copy, Default)]
-pub struct Begun {
-    pub answer: u64,
-    pub line: Line,
-}
 
 // A station with nothing in it.
 pub fn no_station() -> Station
@@ -60,25 +54,17 @@ fn seat(first: &[u64]) -> [Station; 12]
 
 // A run at real time 0, each sound station in round 0, nothing signed, nothing in flight; 1 to 8 for a setup that is
 // refused.
-pub fn fresh(plan: Plan, first: &[u64]) -> Begun
-    ensures { result ≡ begin.begun plan first.now }
+pub fn fresh(plan: Plan, first: &[u64]) -> Result<Line, Refusal>
+    ensures { begin.as_begun result ≡ begin.begun plan first.now }
 {
-    let answer = setup::answer(plan, first);
-    if answer != 0 {
-        return Begun {
-            answer,
-            line: Line::default(),
-        };
-    }
-    Begun {
-        answer: 0,
-        line: Line {
-            plan,
-            length: plan.stations,
-            stations: seat(first),
-            ..Line::default()
-        },
-    }
+    setup::answer(plan, first)?;
+    Ok(Line {
+        plan,
+        time: Moment(0),
+        length: plan.stations,
+        stations: seat(first),
+        count: 0,
+    })
 }
 
 // ---- the record
@@ -117,26 +103,11 @@ fn bad_faulty(s: Station) -> bool
     s != no_station()
 }
 
-// The answer to a question about a station: 0 with its reading and round, or the number that refuses it.
+// What is shown of a station.
 #[derive(Clone, Copy)]
 pub struct Shown {
-    pub answer: u64,
     pub reading: Reading,
     pub round: u64,
-}
-
-// The answer to a question about two stations: 0 with the lead, or the number that refuses it.
-#[derive(Clone, Copy)]
-pub struct Led {
-    pub answer: u64,
-    pub lead: i64,
-}
-
-// The answer to the question how many messages are in flight.
-#[derive(Clone, Copy)]
-pub struct InFlight {
-    pub answer: u64,
-    pub count: u64,
 }
 
 // Whether station i's record breaks its rules.
@@ -215,7 +186,7 @@ pub fn bad_line(l: Line, words: &[u64]) -> bool
     if words.len() as u64 != 3 * MAX_FLIGHT {
         return true;
     }
-    if setup::plan_answer(l.plan) != 0 {
+    if setup::plan_answer(l.plan).is_err() {
         return true;
     }
     if MAX_TIME < l.time.0 {
@@ -236,73 +207,46 @@ pub fn bad_line(l: Line, words: &[u64]) -> bool
 // ---- questions
 
 // The reading and round of a station.
-pub fn reading(l: Line, words: &[u64], i: u64) -> Shown
-    ensures { result ≡ question.shown l words.now i }
+pub fn reading(l: Line, words: &[u64], i: u64) -> Result<Shown, Refusal>
+    ensures { question.as_shown result ≡ question.shown l words.now i }
 {
     if bad_line(l, words) {
-        return Shown {
-            answer: 10,
-            reading: Reading(0),
-            round: 0,
-        };
+        return Err(Refusal::Record);
     }
     if !sound(l.plan, i) {
-        return Shown {
-            answer: 31,
-            reading: Reading(0),
-            round: 0,
-        };
+        return Err(Refusal::NotSound);
     }
     let s = station_at(l, i);
-    Shown {
-        answer: 0,
+    Ok(Shown {
         reading: s.reading,
         round: s.round,
-    }
+    })
 }
 
 // The lead of station a over b: its reading less the other's, below zero where a is behind.
-pub fn lead(l: Line, words: &[u64], a: u64, b: u64) -> Led
-    ensures { result ≡ question.led l words.now a b }
+pub fn lead(l: Line, words: &[u64], a: u64, b: u64) -> Result<i64, Refusal>
+    ensures { question.as_led result ≡ question.led l words.now a b }
 {
     if bad_line(l, words) {
-        return Led {
-            answer: 10,
-            lead: 0,
-        };
+        return Err(Refusal::Record);
     }
     if !sound(l.plan, a) | !sound(l.plan, b) {
-        return Led {
-            answer: 31,
-            lead: 0,
-        };
+        return Err(Refusal::NotSound);
     }
     let x = station_at(l, a);
     let y = station_at(l, b);
     if x.round != y.round {
-        return Led {
-            answer: 32,
-            lead: 0,
-        };
+        return Err(Refusal::Rounds);
     }
-    Led {
-        answer: 0,
-        lead: x.reading.lead(y.reading),
-    }
+    Ok(x.reading.lead(y.reading))
 }
 
 // The number of messages in flight.
-pub fn in_flight(l: Line, words: &[u64]) -> InFlight
-    ensures { result ≡ question.in_flight l words.now }
+pub fn in_flight(l: Line, words: &[u64]) -> Result<u64, Refusal>
+    ensures { question.as_in_flight result ≡ question.in_flight l words.now }
 {
     if bad_line(l, words) {
-        return InFlight {
-            answer: 10,
-            count: 0,
-        };
+        return Err(Refusal::Record);
     }
-    InFlight {
-        answer: 0,
-        count: l.count,
-    }
+    Ok(l.count)
 }

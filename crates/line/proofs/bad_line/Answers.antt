@@ -4,6 +4,7 @@ use lib.ListN.{length}
 use mathlib.Core.Bool.{true}
 use mathlib.Core.Path.{◌≡◌, sym, ◌∙◌}
 use borrow.Author.Tests.{eq-eqb, ne_eqb, lt-ltb, le-ltb, le-leb}
+use Rattle.refusal.proofs.Laws.{ok-zero, err-number}
 use Rattle.setup.specs.Laws.{planned}
 use Rattle.flight.specs.Message.{decode, holds, twins}
 use Rattle.line.specs.HeldLaws.{rules, line-rules}
@@ -22,14 +23,14 @@ returns-then-words c =
     let f : true ≡ rules a.l a.words.now = rw (eq-eqb _ _ c.if-l.false, ne_eqb _ _ c.if-words.true) in
     f ∙ line-rules a.l a.words.now
 
-pub returns-then-plan_answer-ne0 : goal.returns-then-plan_answer-ne0
-returns-then-plan_answer-ne0 c =
+pub returns-then-is_err : goal.returns-then-is_err
+returns-then-is_err c =
     let a = c.args in
     let f : true ≡ rules a.l a.words.now = rw (
       eq-eqb _ _ c.if-l.false,
       eq-eqb _ _
           c.if-words.false,
-      ne_eqb _ _ (λ z. c.if-plan_answer-ne0.true (c.plan_answer.ensures ∙ z)),
+      ne_eqb _ _ (λ z. err-number _ (sym c.if-is_err.ensures.value) (c.plan_answer.ensures ∙ z)),
     ) in
     f ∙ line-rules a.l a.words.now
 
@@ -42,14 +43,14 @@ returns-then-l-gt-MAX_TIME c =
       eq-eqb _ _
           c.if-words.false,
       eq-eqb _ _ (sym
-          c.plan_answer.ensures ∙ c.if-plan_answer-ne0.false),
+          c.plan_answer.ensures ∙ ok-zero _ (sym c.if-is_err.ensures.value)),
       lt-ltb _ _
           c.if-l-gt-MAX_TIME.true,
     ) in
     f ∙ line-rules a.l a.words.now
 
 pub some_bad_station-requires : goal.some_bad_station-requires
-some_bad_station-requires c = planned _ (sym c.plan_answer.ensures ∙ c.if-plan_answer-ne0.false)
+some_bad_station-requires c = planned _ (sym c.plan_answer.ensures ∙ ok-zero _ (sym c.if-is_err.ensures.value))
 
 pub returns-then-some_bad_station : goal.returns-then-some_bad_station
 returns-then-some_bad_station c =
@@ -61,7 +62,7 @@ returns-then-some_bad_station c =
           c.if-words.false,
       eq-eqb _ _ (sym
           c.plan_answer.ensures
-          ∙ c.if-plan_answer-ne0.false),
+          ∙ ok-zero _ (sym c.if-is_err.ensures.value)),
       le-ltb _ _ c.if-l-gt-MAX_TIME.false,
       (sym
           c.some_bad_station.ensures ∙ c.if-some_bad_station.true),
@@ -78,7 +79,7 @@ returns-then-l-gt-MAX_FLIGHT c =
           c.if-words.false,
       eq-eqb _ _ (sym
           c.plan_answer.ensures
-          ∙ c.if-plan_answer-ne0.false),
+          ∙ ok-zero _ (sym c.if-is_err.ensures.value)),
       le-ltb _ _
           c.if-l-gt-MAX_TIME.false,
       (sym
@@ -98,7 +99,7 @@ returns-then-some_bad_message c =
       eq-eqb _ _ c.if-words.false,
       eq-eqb _ _ (sym
           c.plan_answer.ensures
-          ∙ c.if-plan_answer-ne0.false),
+          ∙ ok-zero _ (sym c.if-is_err.ensures.value)),
       le-ltb _ _
           c.if-l-gt-MAX_TIME.false,
       (sym
@@ -123,7 +124,7 @@ returns c =
           c.if-words.false,
       eq-eqb _ _ (sym
           c.plan_answer.ensures
-          ∙ c.if-plan_answer-ne0.false),
+          ∙ ok-zero _ (sym c.if-is_err.ensures.value)),
       le-ltb _ _
           c.if-l-gt-MAX_TIME.false,
       (sym
