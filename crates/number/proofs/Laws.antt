@@ -10,7 +10,7 @@ use Rattle.std.proofs.lemmas.Grind.{get_or_default_zero}
 use Rattle.std.proofs.Math.ListN.{length, take, drop, length-append, length-drop}
 use Rattle.std.proofs.Math.Seq.{take_at, drop-drop}
 use Rattle.clock.specs.Pick.{pick}
-use Rattle.number.specs.declared.Number.TheVariants.{Value, Refused}
+use Rattle.number.specs.Number.{Value, Refused}
 use Rattle.number.specs.Number.{ends, number_from, read_number, groups, number_bytes, bytes_of, laid}
 
 -- ---- reading

@@ -7,7 +7,7 @@ use Rattle.std.proofs.Math.Nat.{one-le-pow}
 use Rattle.std.proofs.Math.Decide.{dec_lt, ℕ_discrete}
 use Rattle.std.proofs.Math.Seq.{get_or-append_seam}
 use Rattle.std.proofs.lemmas.Bool.{lt-leb}
-use Rattle.number.specs.declared.Number.TheVariants.{Value, Refused}
+use Rattle.number.specs.Number.{Value, Refused}
 use Rattle.number.specs.Number.{ends, number_from, read_number, groups, number_bytes}
 use Rattle.number.proofs.Laws.{groups-last, groups-on}
 

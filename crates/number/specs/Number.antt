@@ -1,11 +1,20 @@
 -- A number as bytes, document 01, "Scripts": groups of seven bits, lowest first, the top bit of a byte set where another
 -- follows, in the fewest bytes.
-use Rattle.std.specs.Prelude.{ℕ, zero, suc, ◌+◌, ◌*◌, ◌/◌, ◌%◌, ◌&&◌, not, List, [], ◌∷◌, ◌++◌, ltb, leb, eqb, length, get_or, take, drop}
+use Rattle.std.specs.Prelude.{ℕ, Result, Ok, Err, zero, suc, ◌+◌, ◌*◌, ◌/◌, ◌%◌, ◌&&◌, not, List, [], ◌∷◌, ◌++◌, ltb, leb, eqb, length, get_or, take, drop}
 use Rattle.clock.specs.Pick.{pick}
-use Rattle.number.specs.declared.Number.{Number}
-use Rattle.number.specs.declared.Number.TheVariants.{Value, Refused}
+use Rattle.refusal.specs.declared.Refusal.{Refusal}
+use Rattle.refusal.specs.Refusal.{number}
 
 -- ---- reading
+
+-- a number that was read whole and the place behind it, or the refusal: 21, 22 or 23
+pub data Number : Type 0 where
+  Value : ℕ → ℕ → Number
+  Refused : ℕ → Number
+
+abbrev pub as_number : Result (ℕ × ℕ) Refusal → Number
+as_number (Ok x) = Value x.0 x.1
+as_number (Err r) = Refused (number r)
 
 -- a byte that none follows: 22 for a zero after others, else it ends the number
 unfoldable pub ends : ℕ → ℕ → ℕ → ℕ → Number

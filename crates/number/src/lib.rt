@@ -5,48 +5,43 @@
 ghost use Rattle.std.specs.Prelude.{◌≡◌, ◌≤◌, ◌<◌, ◌+◌, ◌*◌, ◌^◌};
 ghost use Rattle.number.specs.Number as form;
 
-// A number that was read whole and the place behind it, or the refusal: 21, 22 or 23.
-#[derive(Clone, Copy)]
-pub enum Number {
-    Value(u64, usize),
-    Refused(u64),
-}
+use refusal::Refusal;
 
 // A byte that none follows: 22 for a zero after others, else it ends the number.
-fn ends(byte: u64, weight: u64, sum: u64, at: usize) -> Number
+fn ends(byte: u64, weight: u64, sum: u64, at: usize) -> Result<(u64, usize), Refusal>
     requires { (byte * weight ≤ 2 ^ 63) × (sum < 2 ^ 63) × (at + 1 < 2 ^ 64) }
-    ensures { result ≡ form.ends byte weight sum at }
+    ensures { form.as_number result ≡ form.ends byte weight sum at }
 {
     if (byte == 0) & (weight != 1) {
-        return Number::Refused(22);
+        return Err(Refusal::LastZero);
     }
-    Number::Value(sum + byte * weight, at + 1)
+    Ok((sum + byte * weight, at + 1))
 }
 
 // The tenth byte of a number: 23 where it is above 1.
-fn tenth(bytes: &[u8], at: usize, weight: u64, sum: u64) -> Number
+fn tenth(bytes: &[u8], at: usize, weight: u64, sum: u64) -> Result<(u64, usize), Refusal>
     requires { (weight ≤ 2 ^ 63) × (sum < weight) }
-    ensures { result ≡ form.number_from 0 bytes.now at weight sum }
+    ensures { form.as_number result ≡ form.number_from 0 bytes.now at weight sum }
 {
     let Some(&byte) = bytes.get(at) else {
-        return Number::Refused(21);
+        return Err(Refusal::Cut);
     };
     if byte > 1 {
-        return Number::Refused(23);
+        return Err(Refusal::TenthByte);
     }
     ends(u64::from(byte), weight, sum, at)
 }
 
 // The number at a place of the bytes, byte by byte.
-fn read_long(bytes: &[u8], at: usize) -> Number
-    ensures { result ≡ form.read_number bytes.now at }
+fn read_long(bytes: &[u8], at: usize) -> Result<(u64, usize), Refusal>
+    ensures { form.as_number result ≡ form.read_number bytes.now at }
 {
     let mut place = at;
     let mut weight: u64 = 1;
     let mut sum: u64 = 0;
     for _ in 0..9u64 {
         let Some(&byte) = bytes.get(place) else {
-            return Number::Refused(21);
+            return Err(Refusal::Cut);
         };
         let byte = u64::from(byte);
         if byte < 128 {
@@ -59,17 +54,17 @@ fn read_long(bytes: &[u8], at: usize) -> Number
     tenth(bytes, place, weight, sum)
 }
 
-// The number at a place of the bytes: read whole, or the reading stops. Most numbers of a script are one byte: these are read
-// where they are asked for, without a call.
+// The number at a place of the bytes and the place behind it: read whole, or the reading stops with 21, 22 or 23. Most numbers
+// of a script are one byte: these are read where they are asked for, without a call.
 #[inline(always)]
-pub fn read_number(bytes: &[u8], at: usize) -> Number
-    ensures { result ≡ form.read_number bytes.now at }
+pub fn read_number(bytes: &[u8], at: usize) -> Result<(u64, usize), Refusal>
+    ensures { form.as_number result ≡ form.read_number bytes.now at }
 {
     let Some(&byte) = bytes.get(at) else {
-        return Number::Refused(21);
+        return Err(Refusal::Cut);
     };
     if byte < 128 {
-        return Number::Value(u64::from(byte), at + 1);
+        return Ok((u64::from(byte), at + 1));
     }
     read_long(bytes, at)
 }

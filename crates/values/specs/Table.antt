@@ -1,6 +1,6 @@
 -- The values that document 01, "Values on each side", marks (p): one line each, by computation on the definitions.
 use Rattle.std.specs.Prelude.{ℕ, [], ◌∷◌, ◌≡◌, refl, replicate}
-use Rattle.number.specs.declared.Number.TheVariants.{Refused}
+use Rattle.number.specs.Number.{Refused}
 use Rattle.number.specs.Number.{ends, number_from, read_number}
 use Rattle.setup.specs.declared.Plan.{Plan}
 use Rattle.setup.specs.Setup.{bad_stations, bad_faults, bad_limits, bad_marks, gap, steps, spreads, plan_answer, bad_first, first_answer, setup_answer}

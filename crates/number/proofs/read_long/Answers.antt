@@ -2,7 +2,7 @@
 -- whole reading does, and the weights keep every sum within a word. Assumes nothing.
 use Rattle.std.proofs.Common.{ℕ, ◌+◌, ◌*◌, ◌-◌, ◌%◌, ◌≤◌, ◌<◌, ◌^◌, List, ◌≡◌, refl, sym, ◌∙◌, length, get_or, ltb, true, false, arith, le-leb, lt-ltb, le-ltb, mul-le-mul_right}
 use Rattle.std.proofs.lemmas.Bool.{lt-leb}
-use Rattle.number.specs.declared.Number.TheVariants.{Refused}
+use Rattle.number.specs.Number.{Refused}
 use Rattle.number.specs.Number.{ends, number_from, read_number}
 use Rattle.number.proofs.Laws.{at_end, in_bytes, byte_at, number_step, weight-start, weight-most, weight-room, weight-next}
 use Rattle.number.proofs.read_long.Goals as goal

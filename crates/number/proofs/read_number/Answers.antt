@@ -1,6 +1,6 @@
 -- `number::read_number` answers `read_number`: a first byte below 128 at once, any other as `read_long` does. Assumes nothing.
 use Rattle.std.proofs.Common.{◌+◌, sym, ◌∙◌, ap, arith, le-leb}
-use Rattle.number.specs.declared.Number.TheVariants.{Value}
+use Rattle.number.specs.Number.{Value}
 use Rattle.number.specs.Number.{read_number}
 use Rattle.number.proofs.Laws.{at_end, in_bytes, byte_at, number_short, number_step}
 use Rattle.number.proofs.read_number.Goals as goal
