@@ -8,15 +8,14 @@ use native.Mathlib.Omega.{arith}
 use Rattle.clock.specs.Pick.{pick}
 use Rattle.std.proofs.lemmas.List.{length-replicate, take-replicate, drop-replicate, set_at}
 use Rattle.std.proofs.Math.Seq.{append_snoc}
-use Rattle.number.specs.declared.Number.{Number}
-use Rattle.number.specs.declared.Number.TheVariants.{Value, Refused}
-use Rattle.script.specs.declared.read.Numbers.{Numbers}
+use Rattle.number.specs.Number.{Number, Value, Refused}
+use Rattle.script.specs.Read.{Numbers}
 use Rattle.number.specs.Number.{ends, number_from, read_number}
 use Rattle.script.specs.Read.{on_number, Many, many, stopped, and_many, read_many, padded, as_numbers, plan_of, Setup, setup, no_setup, with_first, with_plan, setup_from, read_setup, unread, as_setup, Happening, event, no_event, advance_from, none_read, as_event}
-use Rattle.script.specs.declared.read.EventRead.{EventRead}
+use Rattle.script.specs.Read.{EventRead}
 use Rattle.event.specs.declared.Event.{Event}
 use Rattle.event.specs.declared.Event.TheVariants.{Advance, Deliver, Send}
-use Rattle.script.specs.declared.read.SetupRead.{SetupRead}
+use Rattle.script.specs.Read.{SetupRead}
 use Rattle.setup.specs.declared.Plan.{Plan}
 use Rattle.clock.specs.Limits.{max_stations}
 use Rattle.clock.specs.Tests.{outside, inside}

@@ -20,8 +20,7 @@ use Rattle.setup.specs.Laws.{planned, accepted}
 use Rattle.event.specs.declared.Event.{Event}
 use Rattle.event.specs.declared.Event.TheVariants.{Advance, Deliver, Send}
 use Rattle.event.specs.Event.{barred, bad_advance}
-use Rattle.number.specs.declared.Number.{Number}
-use Rattle.number.specs.declared.Number.TheVariants.{Value, Refused}
+use Rattle.number.specs.Number.{Number, Value, Refused}
 use Rattle.number.specs.Number.{read_number, number_bytes, bytes_of}
 use Rattle.number.proofs.Laws.{number-length, bytes-append, rows-length}
 use Rattle.number.proofs.RoundTrip.{number-back, number-again}

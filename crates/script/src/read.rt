@@ -1,84 +1,55 @@
 // Setups and events read from a script's bytes. `let .. else` takes each number and the place behind it, or passes the
-// refusal on; after a refusal everything is zero and the place is the script's end.
+// refusal on.
 ghost use Rattle.std.specs.Prelude.{◌≡◌, ◌+◌, ◌≤◌};
 ghost use Rattle.script.specs.Read as form;
 
 use event::Event;
-use number::{Number, read_number};
+use number::read_number;
+use refusal::Refusal;
 use setup::Plan;
 
-// Numbers that were read one behind the other, or the refusal: 21, 22 or 23.
+// Numbers that were read one behind the other, and the place behind them.
 #[derive(Clone, Copy)]
 struct Numbers {
-    answer: u64,
     values: [u64; 12],
     next: usize,
 }
 
-// A setup that was read to its end, or the refusal: 1 or 21 to 23. The first readings are the first n of `first`.
+// A setup that was read to its end, and the place behind it. The first readings are the first n of `first`.
 #[derive(Clone, Copy)]
 pub struct SetupRead {
-    pub answer: u64,
     pub plan: Plan,
     pub first: [u64; 12],
     pub next: usize,
 }
 
-// An event that was read to its end, or the refusal: 1 or 21 to 24. An advance's increments are the first n.
+// An event that was read to its end, and the place behind it. An advance's increments are the first n.
 #[derive(Clone, Copy)]
 pub struct EventRead {
-    pub answer: u64,
     pub event: Event,
     pub increments: [u64; 12],
     pub next: usize,
 }
 
-// The number of a refusal; 0 where there is none.
-fn refusal(answer: Number) -> u64
-    ensures { result ≡ form.refusal_of answer }
-{
-    match answer {
-        Number::Value(_, _) => 0,
-        Number::Refused(number) => number,
-    }
-}
-
 // Reads so many numbers.
-fn read_numbers(bytes: &[u8], at: usize, count: usize) -> Numbers
+fn read_numbers(bytes: &[u8], at: usize, count: usize) -> Result<Numbers, Refusal>
     requires { count ≤ 12 }
-    ensures { result ≡ form.as_numbers bytes.now (form.read_many count bytes.now at) }
+    ensures { form.told_numbers bytes.now result ≡ form.as_numbers bytes.now (form.read_many count bytes.now at) }
 {
     let mut values = [0; 12];
     let mut place = at;
     for value in &mut values[..count] {
         let answer = read_number(bytes, place);
-        let Number::Value(v, next) = answer else {
-            return Numbers {
-                answer: refusal(answer),
-                values: [0; 12],
-                next: bytes.len(),
-            };
+        let Ok((v, next)) = answer else {
+            return Err(answer.unwrap_err());
         };
         *value = v;
         place = next;
     }
-    Numbers {
-        answer: 0,
+    Ok(Numbers {
         values,
         next: place,
-    }
-}
-
-// A setup whose reading stopped.
-fn no_setup(answer: u64, end: usize) -> SetupRead
-    ensures { result ≡ form.unread answer end }
-{
-    SetupRead {
-        answer,
-        plan: Plan::default(),
-        first: [0; 12],
-        next: end,
-    }
+    })
 }
 
 // n and the seven numbers behind it as a plan.
@@ -97,33 +68,28 @@ fn plan_of(n: u64, values: [u64; 12]) -> Plan
     }
 }
 
-// Reads a setup: n, f, r, T, D, A, P, the faulty mask and n first readings. 1 is answered as soon as n is read.
-pub fn read_setup(bytes: &[u8], at: usize) -> SetupRead
-    ensures { result ≡ form.as_setup bytes.now (form.read_setup bytes.now at) }
+// Reads a setup: n, f, r, T, D, A, P, the faulty mask and n first readings; or the refusal: 1 as soon as n is read, or 21 to
+// 23.
+pub fn read_setup(bytes: &[u8], at: usize) -> Result<SetupRead, Refusal>
+    ensures { form.told_setup bytes.now result ≡ form.as_setup bytes.now (form.read_setup bytes.now at) }
 {
     let answer = read_number(bytes, at);
-    let Number::Value(n, behind) = answer else {
-        return no_setup(refusal(answer), bytes.len());
+    let Ok((n, behind)) = answer else {
+        return Err(answer.unwrap_err());
     };
     if clock::outside(1, clock::MAX_STATIONS, n) {
-        return no_setup(1, bytes.len());
+        return Err(Refusal::Stations);
     }
-    let named = read_numbers(bytes, behind, 7);
-    if named.answer != 0 {
-        return no_setup(named.answer, bytes.len());
-    }
-    let first = read_numbers(bytes, named.next, n as usize);
-    if first.answer != 0 {
-        return no_setup(first.answer, bytes.len());
-    }
-    let values = named.values;
-    let readings = first.values;
-    SetupRead {
-        answer: 0,
-        plan: plan_of(n, values),
-        first: readings,
-        next: first.next,
-    }
+    let named = read_numbers(bytes, behind, 7)?;
+    let Numbers {
+        values: first,
+        next,
+    } = read_numbers(bytes, named.next, n as usize)?;
+    Ok(SetupRead {
+        plan: plan_of(n, named.values),
+        first,
+        next,
+    })
 }
 
 // The unread rest of a script behind its setup: that part of it, and no copy. Where 1 or 21 to 23 stops the reading, the
@@ -132,103 +98,84 @@ pub fn rest(bytes: &[u8]) -> &[u8]
     ensures bytes_left { result.now ≡ form.rest_of bytes.now }
     ensures address { result.ref_ptr ≡ (bytes.entry.ref_ptr.0, form.rest_at bytes.now + bytes.entry.ref_ptr.1) }
 {
-    let read = read_setup(bytes, 0);
-    &bytes[read.next..]
-}
-
-// An event whose reading stopped.
-fn no_event(answer: u64, end: usize) -> EventRead
-    ensures { result ≡ form.none_read answer end }
-{
-    EventRead {
-        answer,
-        event: Event::Advance(0),
-        increments: [0; 12],
-        next: end,
+    match read_setup(bytes, 0) {
+        Ok(read) => &bytes[read.next..],
+        Err(_) => &bytes[bytes.len()..],
     }
 }
 
 // Reads what stands behind kind 1: d and n increments.
-fn read_advance(bytes: &[u8], at: usize, stations: usize) -> EventRead
+fn read_advance(bytes: &[u8], at: usize, stations: usize) -> Result<EventRead, Refusal>
     requires { stations ≤ 12 }
-    ensures { result ≡ form.as_event bytes.now (form.advance_from stations bytes.now at) }
+    ensures { form.told_event bytes.now result ≡ form.as_event bytes.now (form.advance_from stations bytes.now at) }
 {
     let answer = read_number(bytes, at);
-    let Number::Value(d, behind) = answer else {
-        return no_event(refusal(answer), bytes.len());
+    let Ok((d, behind)) = answer else {
+        return Err(answer.unwrap_err());
     };
-    let named = read_numbers(bytes, behind, stations);
-    if named.answer != 0 {
-        return no_event(named.answer, bytes.len());
-    }
-    let increments = named.values;
-    EventRead {
-        answer: 0,
+    let Numbers {
+        values: increments,
+        next,
+    } = read_numbers(bytes, behind, stations)?;
+    Ok(EventRead {
         event: Event::Advance(d),
         increments,
-        next: named.next,
-    }
+        next,
+    })
 }
 
 // Reads what stands behind kind 2: sender, recipient, round, message kind.
-fn read_deliver(bytes: &[u8], at: usize) -> EventRead
-    ensures { result ≡ form.as_event bytes.now (form.deliver_from (form.read_many 4 bytes.now at)) }
+fn read_deliver(bytes: &[u8], at: usize) -> Result<EventRead, Refusal>
+    ensures { form.told_event bytes.now result ≡ form.as_event bytes.now (form.deliver_from (form.read_many 4 bytes.now at)) }
 {
-    let named = read_numbers(bytes, at, 4);
-    if named.answer != 0 {
-        return no_event(named.answer, bytes.len());
-    }
-    let v = named.values;
-    EventRead {
-        answer: 0,
+    let Numbers { values, next } = read_numbers(bytes, at, 4)?;
+    let [sender, recipient, round, kind, ..] = values;
+    Ok(EventRead {
         event: Event::Deliver {
-            sender: v[0],
-            recipient: v[1],
-            round: v[2],
-            kind: v[3],
+            sender,
+            recipient,
+            round,
+            kind,
         },
         increments: [0; 12],
-        next: named.next,
-    }
+        next,
+    })
 }
 
 // Reads what stands behind kind 3: sender, recipient, round, signers.
-fn read_send(bytes: &[u8], at: usize) -> EventRead
-    ensures { result ≡ form.as_event bytes.now (form.send_from (form.read_many 4 bytes.now at)) }
+fn read_send(bytes: &[u8], at: usize) -> Result<EventRead, Refusal>
+    ensures { form.told_event bytes.now result ≡ form.as_event bytes.now (form.send_from (form.read_many 4 bytes.now at)) }
 {
-    let named = read_numbers(bytes, at, 4);
-    if named.answer != 0 {
-        return no_event(named.answer, bytes.len());
-    }
-    let v = named.values;
-    EventRead {
-        answer: 0,
+    let Numbers { values, next } = read_numbers(bytes, at, 4)?;
+    let [sender, recipient, round, signers, ..] = values;
+    Ok(EventRead {
         event: Event::Send {
-            sender: v[0],
-            recipient: v[1],
-            round: v[2],
-            signers: v[3],
+            sender,
+            recipient,
+            round,
+            signers,
         },
         increments: [0; 12],
-        next: named.next,
-    }
+        next,
+    })
 }
 
-// Reads an event of a line of so many stations: 24 for an unknown kind, 1 for a number of stations that no setup has.
-pub fn read_event(bytes: &[u8], at: usize, stations: u64) -> EventRead
-    ensures { result ≡ form.as_event bytes.now (form.read_event stations bytes.now at) }
+// Reads an event of a line of so many stations, or the refusal: 1 for a number of stations that no setup has, 21 to 23, or 24
+// for an unknown kind.
+pub fn read_event(bytes: &[u8], at: usize, stations: u64) -> Result<EventRead, Refusal>
+    ensures { form.told_event bytes.now result ≡ form.as_event bytes.now (form.read_event stations bytes.now at) }
 {
     if clock::outside(1, clock::MAX_STATIONS, stations) {
-        return no_event(1, bytes.len());
+        return Err(Refusal::Stations);
     }
     let answer = read_number(bytes, at);
-    let Number::Value(kind, behind) = answer else {
-        return no_event(refusal(answer), bytes.len());
+    let Ok((kind, behind)) = answer else {
+        return Err(answer.unwrap_err());
     };
     match kind {
         1 => read_advance(bytes, behind, stations as usize),
         2 => read_deliver(bytes, behind),
         3 => read_send(bytes, behind),
-        _ => no_event(24, bytes.len()),
+        _ => Err(Refusal::Kind),
     }
 }

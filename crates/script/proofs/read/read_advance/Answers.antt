@@ -1,24 +1,23 @@
 -- `script::read_advance` answers `advance_from`: at each `return` the numbers read so far say how far the reading came. Assumes
 -- nothing.
 use mathlib.Core.Path.{refl, ap, sym, ◌∙◌}
-use Rattle.script.specs.Read.{refusal_of}
+use Rattle.std.proofs.lemmas.Result.{err_from_is_err_and}
+use Rattle.refusal.proofs.Laws.{refused}
+use Rattle.number.specs.Number.{as_number}
 use Rattle.script.proofs.ReadLaws.{got, lost, advance-refused, advance-stopped, advance-whole, unread-event, whole-event}
 use Rattle.script.proofs.read.read_advance.Goals as goal
 
 pub returns-in_default : goal.returns-in_default
-unfolding refusal_of
-returns-in_default c = unread-event _ _ _ _ _ c.no_event.ensures (c.refusal.ensures ∙ ap refusal_of
-    c.in_default.is) (advance-refused _ _ _ _ (sym
-    c.read_number-answer.ensures ∙ c.in_default.is))
+returns-in_default c =
+    unread-event _ _ _ _ _ refl refl (advance-refused _ _ _ _ (sym c.read_number-answer.ensures ∙ ap as_number c.unwrap_err.ensures))
 
-pub returns-then-named-ne0 : goal.returns-then-named-ne0
-returns-then-named-ne0 c = unread-event _ _ _ _ _ c.no_event-then-named-ne0.ensures refl (advance-stopped _ _ _ _ _ _ (sym
-    c.read_number-answer.ensures
-    ∙ c.in-Value.is) (lost _ _ _ _
-    c.read_numbers-named.ensures c.if-named-ne0.true))
+pub returns-in_err-increments : goal.returns-in_err-increments
+returns-in_err-increments c =
+    let p = err_from_is_err_and c.from_residual.result c.from_residual.ensures.1 in
+    rw (p.1, p.2) (unread-event _ _ _ _ _ refl refl
+    (advance-stopped _ _ _ _ _ _ (sym c.in-Ok.ensures) (lost _ _ _ _ c.in_err-increments.ensures (refused _))))
 
 pub returns : goal.returns
-returns c = let a = (got _ _ _ _ c.read_numbers-named.ensures
-    c.if-named-ne0.false) in whole-event _ _ _ _ a.vs _ _ (advance-whole _ _ _ _ _ _ a.vs (sym
-    c.read_number-answer.ensures
-    ∙ c.in-Value.is) a.is) a.values refl
+returns c =
+    let a = got _ _ _ _ c.in_ok-increments.ensures refl in
+    whole-event _ _ _ _ a.vs _ _ (advance-whole _ _ _ _ _ _ a.vs (sym c.in-Ok.ensures) a.is) a.values refl

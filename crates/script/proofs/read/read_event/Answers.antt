@@ -1,10 +1,9 @@
 -- `script::read_event` answers `read_event`: n is asked first, then the kind says which reader goes on. Assumes nothing.
 use Rattle.std.proofs.Common.{arith, ℕ, List, ◌≡◌, refl, false, ap, sym, ◌∙◌, ne_eqb}
-use Rattle.number.specs.declared.Number.TheVariants.{Value}
-use Rattle.number.specs.Number.{read_number}
+use Rattle.number.specs.Number.{Value, as_number, read_number}
 use Rattle.clock.specs.Tests.{outside, inside}
 use Rattle.clock.specs.Limits.{max_stations}
-use Rattle.script.specs.Read.{refusal_of, read_event, event_from}
+use Rattle.script.specs.Read.{read_event, event_from}
 use Rattle.script.proofs.ReadLaws.{unread-event}
 use Rattle.script.proofs.read.read_event.Goals as goal
 
@@ -16,18 +15,17 @@ goes_on n s at kind next o e = rw (o, e) refl
 
 pub returns-then-outside : goal.returns-then-outside
 unfolding read_event
-returns-then-outside c = unread-event _ _ 1 _ _ c.no_event.ensures refl (rw (sym c.outside.ensures
+returns-then-outside c = unread-event _ _ 1 _ _ refl refl (rw (sym c.outside.ensures
     ∙ c.if-outside.true))
 
 pub returns-in_default : goal.returns-in_default
-unfolding read_event refusal_of
-returns-in_default c = unread-event _ _ _ _ _ c.no_event-in_default.ensures (c.refusal.ensures ∙ ap refusal_of
-    c.in_default.is) (rw (
+unfolding read_event
+returns-in_default c = unread-event _ _ _ _ _ refl refl (rw (
       (sym
           c.outside.ensures
           ∙ c.if-outside.false),
       (sym
-          c.read_number-answer.ensures ∙ c.in_default.is),
+          c.read_number-answer.ensures ∙ ap as_number c.unwrap_err.ensures),
     ))
 
 pub read_advance-requires : goal.read_advance-requires
@@ -38,24 +36,24 @@ read_advance-requires c = (inside 1 max_stations _ (sym
 pub returns-in-1 : goal.returns-in-1
 unfolding event_from
 returns-in-1 c =
-    rw (← goes_on _ _ _ _ _ (sym c.outside.ensures ∙ c.if-outside.false) (sym c.read_number-answer.ensures ∙ c.in-Value.is), c.in-1.is)
+    rw (← goes_on _ _ _ _ _ (sym c.outside.ensures ∙ c.if-outside.false) (sym c.in-Ok.ensures), c.in-1.is)
     c.read_advance.ensures
 
 pub returns-in-2 : goal.returns-in-2
 unfolding event_from
 returns-in-2 c =
-    rw (← goes_on _ _ _ _ _ (sym c.outside.ensures ∙ c.if-outside.false) (sym c.read_number-answer.ensures ∙ c.in-Value.is), c.in-2.is)
+    rw (← goes_on _ _ _ _ _ (sym c.outside.ensures ∙ c.if-outside.false) (sym c.in-Ok.ensures), c.in-2.is)
     c.read_deliver.ensures
 
 pub returns-in-3 : goal.returns-in-3
 unfolding event_from
 returns-in-3 c =
-    rw (← goes_on _ _ _ _ _ (sym c.outside.ensures ∙ c.if-outside.false) (sym c.read_number-answer.ensures ∙ c.in-Value.is), c.in-3.is)
+    rw (← goes_on _ _ _ _ _ (sym c.outside.ensures ∙ c.if-outside.false) (sym c.in-Ok.ensures), c.in-3.is)
     c.read_send.ensures
 
 pub returns-in_default-kind : goal.returns-in_default-kind
 unfolding event_from
 returns-in_default-kind c =
-    unread-event _ _ 24 _ _ c.no_event-in_default-kind.ensures refl
-    (sym (goes_on _ _ _ _ _ (sym c.outside.ensures ∙ c.if-outside.false) (sym c.read_number-answer.ensures ∙ c.in-Value.is))
-    ∙ rw (ne_eqb c.in-Value.kind 1 (λ e. omega (arith, e)), ne_eqb c.in-Value.kind 2 (λ e. omega (arith, e)), ne_eqb c.in-Value.kind 3 (λ e. omega (arith, e))))
+    unread-event _ _ 24 _ _ refl refl
+    (sym (goes_on _ _ _ _ _ (sym c.outside.ensures ∙ c.if-outside.false) (sym c.in-Ok.ensures))
+    ∙ rw (ne_eqb c.in-Ok.kind 1 (λ e. omega (arith, e)), ne_eqb c.in-Ok.kind 2 (λ e. omega (arith, e)), ne_eqb c.in-Ok.kind 3 (λ e. omega (arith, e))))

@@ -1,7 +1,7 @@
 -- `script::read_numbers` reads so many numbers: after i turns i of them stand in the array, and the others begin at the place.
 -- Assumes nothing.
-use Rattle.std.proofs.Common.{ℕ, ◌≤◌, ◌<◌, ◌≡◌, length, take, replicate, length-take-le, ap, sym, ◌∙◌, arith}
-use Rattle.script.specs.Read.{refusal_of}
+use Rattle.std.proofs.Common.{ℕ, ◌≤◌, ◌<◌, ◌≡◌, length, take, replicate, length-take-le, refl, ap, sym, ◌∙◌, arith}
+use Rattle.number.specs.Number.{as_number}
 use Rattle.script.proofs.ReadLaws.{taken_none, taken_next, taken-stopped, taken-numbers, stopped-numbers}
 use Rattle.script.proofs.read.read_numbers.Goals as goal
 
@@ -16,17 +16,16 @@ pub loop-value-init : goal.loop-value-init
 loop-value-init c = taken_none _ _ _ c.requires
 
 pub returns-in_default : goal.returns-in_default
-unfolding refusal_of
 returns-in_default c =
     stopped-numbers _ _ _ _
     (taken-stopped _ _ _ _ _ _ c.loop-value.invariant (counted c.requires c.loop-value-test.true) _
-    (sym c.read_number-answer.ensures ∙ c.in_default.is))
-    (c.refusal.ensures ∙ ap refusal_of c.in_default.is)
+    (sym c.read_number-answer.ensures ∙ ap as_number c.unwrap_err.ensures))
+    refl
 
 pub loop-value-preserved : goal.loop-value-preserved
 loop-value-preserved c =
     taken_next _ _ _ _ _ _ c.loop-value.invariant (counted c.requires c.loop-value-test.true) _ _
-    (sym c.read_number-answer.ensures ∙ c.in-Value.is)
+    (sym c.in-Ok.ensures)
 
 pub returns : goal.returns
 returns c = taken-numbers _ _ _ _ _ _ c.loop-value.invariant (omega (arith, places c.requires))

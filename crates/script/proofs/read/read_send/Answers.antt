@@ -3,18 +3,21 @@ use Prim.Native.Nat.{ℕ}
 use mathlib.Core.List.{List, []}
 use mathlib.Core.Path.{refl, ap, ◌∙◌}
 use lib.ListN.{get_or}
+use Rattle.std.proofs.lemmas.Result.{err_from_is_err_and}
+use Rattle.refusal.proofs.Laws.{refused}
 use Rattle.event.specs.declared.Event.TheVariants.{Send}
 use Rattle.script.specs.Read.{send_from, padded}
 use Rattle.script.proofs.ReadLaws.{got, lost, send-padded, unread-event, whole-event}
 use Rattle.script.proofs.read.read_send.Goals as goal
 
-pub returns-then-named-ne0 : goal.returns-then-named-ne0
-returns-then-named-ne0 c = unread-event _ _ _ _ _ c.no_event.ensures refl (ap send_from (lost _ _ _ _
-    c.read_numbers-named.ensures c.if-named-ne0.true))
+pub returns-in_err-values : goal.returns-in_err-values
+returns-in_err-values c =
+    let p = err_from_is_err_and c.from_residual.result c.from_residual.ensures.1 in
+    rw (p.1, p.2) (unread-event _ _ _ _ _ refl refl (ap send_from (lost _ _ _ _ c.in_err-values.ensures (refused _))))
 
 pub returns : goal.returns
 unfolding padded
 returns c =
-    let a = (got _ _ _ _ c.read_numbers-named.ensures c.if-named-ne0.false) in
+    let a = got _ _ _ _ c.in_ok-values.ensures refl in
     whole-event _ _ _ _ [] _ _ (ap send_from a.is) refl
     (ap (λ (l : List ℕ). Send (get_or l 0 0) (get_or l 1 0) (get_or l 2 0) (get_or l 3 0)) a.values ∙ send-padded a.vs)
