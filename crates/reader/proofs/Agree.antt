@@ -4,9 +4,7 @@ use Rattle.std.specs.Prelude.{ℕ, zero, suc, ◌+◌, ◌≤◌, List, [], ◌�
 use Rattle.std.proofs.Common.{ap, ◌∙◌, arith}
 use Rattle.std.specs.Borrow.{Bor}
 use Rattle.clock.specs.Pick.{pick}
-use Rattle.number.specs.declared.Number.{Number}
-use Rattle.number.specs.declared.Number.TheVariants.{Value, Refused}
-use Rattle.number.specs.Number.{read_number}
+use Rattle.number.specs.Number.{Number, Value, Refused, read_number}
 use Rattle.script.specs.Read.{Setup, setup, no_setup, read_setup, as_setup, unread, Happening, event, no_event, read_event, as_event, none_read}
 use Rattle.script.specs.Read as script
 use Rattle.script.specs.Script.{Entries, through, torn, and_entry, on_event, read_entries, with_entries, on_setup, read_script}

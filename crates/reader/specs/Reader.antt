@@ -1,15 +1,12 @@
 -- The script reader, document 01, "Scripts": it keeps the lent bytes and its place together.
-use Rattle.std.specs.Prelude.{ℕ, ◌+◌, List, leb, length, drop}
+use Rattle.std.specs.Prelude.{ℕ, Result, Ok, Err, ◌+◌, List, leb, length, drop}
 use Rattle.std.specs.Borrow.{Bor}
 use Rattle.clock.specs.Pick.{pick}
-use Rattle.number.specs.declared.Number.{Number}
-use Rattle.number.specs.declared.Number.TheVariants.{Value, Refused}
-use Rattle.number.specs.Number.{read_number}
-use Rattle.script.specs.declared.read.SetupRead.{SetupRead}
-use Rattle.script.specs.declared.read.EventRead.{EventRead}
-use Rattle.script.specs.Read.{as_event, read_event, as_setup, read_setup}
+use Rattle.refusal.specs.declared.Refusal.{Refusal}
+use Rattle.refusal.specs.Refusal.{number}
+use Rattle.number.specs.Number.{Number, Value, Refused, read_number}
+use Rattle.script.specs.Read.{SetupRead, EventRead, as_event, read_event, as_setup, read_setup}
 use Rattle.reader.specs.declared.Reader.{Reader}
-use Rattle.reader.specs.declared.NumberRead.{NumberRead}
 
 -- the reader that stands at a place of the lent bytes
 unfoldable pub reader_at : Bor (List ℕ) → ℕ → Reader
@@ -21,10 +18,21 @@ stands_at r place = record { bytes = r.bytes; place = place }
 
 -- ---- a number
 
+-- the answer with the value and the place behind it
+pub record NumberRead : Type 0 where
+  pub answer : ℕ
+  pub value : ℕ
+  pub next : ℕ
+
+-- as it is told by a reader that then stands at a place
+abbrev pub told_number : ℕ → Result ℕ Refusal → NumberRead
+told_number place (Ok v) = record { answer = 0; value = v; next = place }
+told_number place (Err r) = record { answer = number r; value = 0; next = place }
+
 -- a number that was read whole and the place behind it; after a refusal the value is zero and the place is the script's end
 unfoldable pub as_number : List ℕ → Number → NumberRead
 as_number s (Value v next) = record { answer = 0; value = v; next = next }
-as_number s (Refused number) = record { answer = number; value = 0; next = length s }
+as_number s (Refused k) = record { answer = k; value = 0; next = length s }
 
 -- the number at a place of the bytes
 unfoldable pub number_at : List ℕ → ℕ → NumberRead

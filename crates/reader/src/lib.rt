@@ -3,9 +3,11 @@
 #![tactic(auto)]
 
 ghost use Rattle.std.specs.Prelude.{◌≡◌};
+ghost use Rattle.script.specs.Read as script;
 ghost use Rattle.reader.specs.Reader as form;
 
-use number::{Number, read_number};
+use number::read_number;
+use refusal::Refusal;
 use script::{EventRead, SetupRead, read_event, read_setup};
 
 // The lent bytes, and the place of the next one to be read.
@@ -13,32 +15,6 @@ use script::{EventRead, SetupRead, read_event, read_setup};
 pub struct Reader<'a> {
     pub bytes: &'a [u8],
     pub place: usize,
-}
-
-// A number that was read whole, or the refusal: 21, 22 or 23. The place is the one behind it, or the script's end.
-#[derive(Clone, Copy)]
-pub struct NumberRead {
-    pub answer: u64,
-    pub value: u64,
-    pub next: usize,
-}
-
-// Reads the number at a place.
-fn number_at(bytes: &[u8], at: usize) -> NumberRead
-    ensures { result ≡ form.number_at bytes.now at }
-{
-    match read_number(bytes, at) {
-        Number::Value(value, next) => NumberRead {
-            answer: 0,
-            value,
-            next,
-        },
-        Number::Refused(number) => NumberRead {
-            answer: number,
-            value: 0,
-            next: bytes.len(),
-        },
-    }
 }
 
 // The part of the bytes from a place on; where the place is past them, the empty part at their end.
@@ -72,40 +48,50 @@ impl<'a> Reader<'a> {
         part(self.bytes, self.place)
     }
 
-    // Reads a number.
-    pub fn number(&mut self) -> NumberRead
-        ensures value { result ≡ form.number_of self.old }
+    // Reads a number. It then stands behind it, or at the script's end where it is refused.
+    pub fn number(&mut self) -> Result<u64, Refusal>
+        ensures value { form.told_number self.new.place result ≡ form.number_of self.old }
         ensures reader_after { self.new ≡ form.after_number self.old }
     {
-        let read = number_at(self.bytes, self.place);
-        self.place = read.next;
-        read
+        let answer = read_number(self.bytes, self.place);
+        let Ok((value, next)) = answer else {
+            self.place = self.bytes.len();
+            return Err(answer.unwrap_err());
+        };
+        self.place = next;
+        Ok(value)
     }
 
     // Reads an event of a line of so many stations.
-    pub fn event(&mut self, stations: u64) -> EventRead
-        ensures value { result ≡ form.event_of stations self.old }
+    pub fn event(&mut self, stations: u64) -> Result<EventRead, Refusal>
+        ensures value { script.told_event self.old.bytes.now result ≡ form.event_of stations self.old }
         ensures reader_after { self.new ≡ form.after_event stations self.old }
     {
         let read = read_event(self.bytes, self.place, stations);
-        self.place = read.next;
+        self.place = match read {
+            Ok(read) => read.next,
+            Err(_) => self.bytes.len(),
+        };
         read
     }
 
     // Reads the setup.
-    pub fn setup(&mut self) -> SetupRead
-        ensures value { result ≡ form.setup_of self.old }
+    pub fn setup(&mut self) -> Result<SetupRead, Refusal>
+        ensures value { script.told_setup self.old.bytes.now result ≡ form.setup_of self.old }
         ensures reader_after { self.new ≡ form.after_setup self.old }
     {
         let read = read_setup(self.bytes, self.place);
-        self.place = read.next;
+        self.place = match read {
+            Ok(read) => read.next,
+            Err(_) => self.bytes.len(),
+        };
         read
     }
 }
 
 // Reads the event at a place by a reader that stands there.
-pub fn event_at(bytes: &[u8], place: usize, stations: u64) -> EventRead
-    ensures { result ≡ form.event_of stations (form.reader_at bytes.entry place) }
+pub fn event_at(bytes: &[u8], place: usize, stations: u64) -> Result<EventRead, Refusal>
+    ensures { script.told_event bytes.entry.now result ≡ form.event_of stations (form.reader_at bytes.entry place) }
 {
     let mut reader = Reader::at(bytes, place);
     reader.event(stations)
@@ -117,6 +103,6 @@ pub fn rest_behind(bytes: &[u8], place: usize, stations: u64) -> &[u8]
     ensures address { result.ref_ptr ≡ form.rest_ptr (form.after_event stations (form.reader_at bytes.entry place)) }
 {
     let mut reader = Reader::at(bytes, place);
-    reader.event(stations);
+    let _ = reader.event(stations);
     reader.rest()
 }
