@@ -4,6 +4,9 @@
 ghost use Rattle.std.specs.Prelude.{◌≡◌};
 ghost use Rattle.refusal.specs.Refusal as given;
 
+use std::error::Error;
+use std::fmt;
+
 // Why a setup, an event, a question or a script is refused, in document 01's order.
 #[derive(Clone, Copy, Debug, PartialEq, Eq)]
 pub enum Refusal {
@@ -67,6 +70,14 @@ impl Refusal {
         self as u64
     }
 }
+
+impl fmt::Display for Refusal {
+    fn fmt<W: fmt::Write>(&self, f: &mut fmt::Formatter<W>) -> fmt::Result {
+        write!(f, "{}", self.number())
+    }
+}
+
+impl Error for Refusal {}
 
 // The number that a caller gets back: 0 for what is accepted, else the refusal's.
 pub fn answer<T>(outcome: &Result<T, Refusal>) -> u64

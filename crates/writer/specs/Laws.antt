@@ -11,9 +11,7 @@ use Rattle.std.proofs.Math.Seq.{append_snoc, drop-drop}
 use Rattle.std.proofs.lemmas.List.{set_at}
 use Rattle.number.specs.Number.{groups, number_bytes, bytes_of, laid}
 use Rattle.number.proofs.Laws.{groups-last, groups-on, groups-length, bytes-append, laid_none, laid_on, length-laid}
-use Rattle.writer.specs.declared.Written.{Written}
-use Rattle.writer.specs.declared.Written.TheVariants as written
-use Rattle.writer.specs.Write.{room, wrote, buffer, writes, leaves}
+use Rattle.writer.specs.Write.{Written, Bytes, Refused, room, wrote, buffer, writes, leaves}
 
 -- ---- a number
 
@@ -146,13 +144,13 @@ bytes-part vs i =
 
 -- a buffer that is too short
 pub short : (out : List ℕ) (at : ℕ) (bytes : List ℕ) → length out < at + length bytes
-    → (written.Refused 25 ≡ wrote out at bytes) × (out ≡ buffer out at bytes)
+    → (Refused 25 ≡ wrote out at bytes) × (out ≡ buffer out at bytes)
 unfolding wrote buffer room
 short out at bytes h = (simp (lt-leb _ _ h), simp (lt-leb _ _ h))
 
 -- and one that has room
 pub long : (out : List ℕ) (at : ℕ) (bytes : List ℕ) → at + length bytes ≤ length out
-    → (written.Bytes (length bytes) ≡ wrote out at bytes) × (laid out at bytes ≡ buffer out at bytes)
+    → (Bytes (length bytes) ≡ wrote out at bytes) × (laid out at bytes ≡ buffer out at bytes)
 unfolding wrote buffer room
 long out at bytes h = (simp (le-leb _ _ h), simp (le-leb _ _ h))
 
@@ -173,7 +171,7 @@ rows-laid out at vs ws h = laid_on out at (bytes_of vs) h (bytes_of ws) ∙ ap (
 
 module _ (number : ℕ) (out : List ℕ) (at : ℕ) (numbers : List ℕ) (r : ℕ) (e : r ≡ number) where
   -- what is refused writes nothing
-  pub refused-writes : (r ≡ 0 → ⊥) → (written.Refused r ≡ writes number out at numbers) × (out ≡ leaves number out at numbers)
+  pub refused-writes : (r ≡ 0 → ⊥) → (Refused r ≡ writes number out at numbers) × (out ≡ leaves number out at numbers)
   unfolding writes leaves
   refused-writes h = rw (← e) (simp (ne_eqb r 0 h), simp (ne_eqb r 0 h))
 

@@ -3,38 +3,33 @@
 #![tactic(auto)]
 
 ghost use Rattle.std.specs.Prelude.{◌≡◌, ◌≤◌, ◌+◌, ◌++◌, length};
+ghost use Rattle.refusal.specs.Refusal as given;
 ghost use Rattle.setup.specs.Setup.{setup_answer};
 ghost use Rattle.number.specs.Number as number;
 ghost use Rattle.script.specs.Write as script;
 ghost use Rattle.writer.specs.Write as writer;
 
 use event::Event;
+use refusal::Refusal;
 use setup::Plan;
-
-// How many bytes were written, or the refusal.
-#[derive(Clone, Copy)]
-pub enum Written {
-    Bytes(usize),
-    Refused(u64),
-}
 
 // ---- bytes and numbers
 
 // Writes bytes as they are at a place of the buffer: how many, or 25 where it is too short and nothing is written.
-pub fn write_bytes(bytes: &[u8], out: &mut [u8], at: usize) -> Written
-    ensures value { result ≡ writer.wrote out.old at bytes.now }
+pub fn write_bytes(bytes: &[u8], out: &mut [u8], at: usize) -> Result<usize, Refusal>
+    ensures value { writer.as_written result ≡ writer.wrote out.old at bytes.now }
     ensures out_after { out.new ≡ writer.buffer out.old at bytes.now }
 {
     let space = out.len();
     let count = bytes.len();
     if space < at {
-        return Written::Refused(25);
+        return Err(Refusal::Short);
     }
     if space - at < count {
-        return Written::Refused(25);
+        return Err(Refusal::Short);
     }
     out[at..at + count].copy_from_slice(bytes);
-    Written::Bytes(count)
+    Ok(count)
 }
 
 // How many bytes a number takes: one for each seven bits, and one for 0.
@@ -88,56 +83,58 @@ fn put_numbers(numbers: &[u64], out: &mut [u8], at: usize) -> usize
 
 // Writes the numbers of two rows, one behind the other, at a place of the buffer: how many bytes, or 25 where it is too
 // short and nothing is written.
-pub fn write_numbers(head: &[u64], tail: &[u64], out: &mut [u8], at: usize) -> Written
-    ensures value { result ≡ writer.wrote out.old at (number.bytes_of (head.now ++ tail.now)) }
+pub fn write_numbers(
+    head: &[u64],
+    tail: &[u64],
+    out: &mut [u8],
+    at: usize,
+) -> Result<usize, Refusal>
+    ensures value { writer.as_written result ≡ writer.wrote out.old at (number.bytes_of (head.now ++ tail.now)) }
     ensures out_after { out.new ≡ writer.buffer out.old at (number.bytes_of (head.now ++ tail.now)) }
 {
     let space = out.len();
     if space < at {
-        return Written::Refused(25);
+        return Err(Refusal::Short);
     }
     let first = width(head);
     if space - at < first {
-        return Written::Refused(25);
+        return Err(Refusal::Short);
     }
     let second = width(tail);
     if space - at - first < second {
-        return Written::Refused(25);
+        return Err(Refusal::Short);
     }
     let next = put_numbers(head, out, at);
     put_numbers(tail, out, next);
-    Written::Bytes(first + second)
+    Ok(first + second)
 }
 
 // Writes a number at a place of the buffer: how many bytes, or 25 where it is too short and nothing is written.
-pub fn write_number(v: u64, out: &mut [u8], at: usize) -> Written
-    ensures value { result ≡ writer.wrote out.old at (number.number_bytes v) }
+pub fn write_number(v: u64, out: &mut [u8], at: usize) -> Result<usize, Refusal>
+    ensures value { writer.as_written result ≡ writer.wrote out.old at (number.number_bytes v) }
     ensures out_after { out.new ≡ writer.buffer out.old at (number.number_bytes v) }
 {
     let space = out.len();
     if space < at {
-        return Written::Refused(25);
+        return Err(Refusal::Short);
     }
     let count = size(v);
     if space - at < count {
-        return Written::Refused(25);
+        return Err(Refusal::Short);
     }
     put_number(v, out, at);
-    Written::Bytes(count)
+    Ok(count)
 }
 
 // ---- setups and events
 
 // Writes a setup at a place of the buffer: how many bytes; else 1 to 8 where it does not pass, then 25 where the buffer is
 // too short.
-pub fn write_setup(plan: Plan, first: &[u64], out: &mut [u8], at: usize) -> Written
-    ensures value { result ≡ writer.writes (setup_answer plan first.now) out.old at (script.setup_numbers plan first.now) }
+pub fn write_setup(plan: Plan, first: &[u64], out: &mut [u8], at: usize) -> Result<usize, Refusal>
+    ensures value { writer.as_written result ≡ writer.writes (setup_answer plan first.now) out.old at (script.setup_numbers plan first.now) }
     ensures out_after { out.new ≡ writer.leaves (setup_answer plan first.now) out.old at (script.setup_numbers plan first.now) }
 {
-    let number = setup::answer(plan, first);
-    if number != 0 {
-        return Written::Refused(number);
-    }
+    setup::answer(plan, first)?;
     let head = [
         plan.stations,
         plan.faults,
@@ -151,18 +148,15 @@ pub fn write_setup(plan: Plan, first: &[u64], out: &mut [u8], at: usize) -> Writ
     write_numbers(&head, first, out, at)
 }
 
-// The number that refuses an event of a line: 1 to 7 where its plan does not pass, then 11 where it is barred; else 0.
-fn event_answer(plan: Plan, event: Event, increments: &[u64]) -> u64
-    ensures { result ≡ writer.event_answer plan event increments.now }
+// What refuses an event of a line: 1 to 7 where its plan does not pass, then 11 where it is barred.
+fn event_answer(plan: Plan, event: Event, increments: &[u64]) -> Result<(), Refusal>
+    ensures { given.answer result ≡ writer.event_answer plan event increments.now }
 {
-    let number = setup::plan_answer(plan);
-    if number != 0 {
-        return number;
-    }
+    setup::plan_answer(plan)?;
     if event::barred(plan.stations, plan.faulty, event, increments) {
-        return 11;
+        return Err(Refusal::Barred);
     }
-    0
+    Ok(())
 }
 
 // Writes an event of a line at a place of the buffer: how many bytes; else 1 to 7 where the line's plan does not pass, 11
@@ -173,14 +167,11 @@ pub fn write_event(
     increments: &[u64],
     out: &mut [u8],
     at: usize,
-) -> Written
-    ensures value { result ≡ writer.writes (writer.event_answer plan event increments.now) out.old at (script.event_numbers event increments.now) }
+) -> Result<usize, Refusal>
+    ensures value { writer.as_written result ≡ writer.writes (writer.event_answer plan event increments.now) out.old at (script.event_numbers event increments.now) }
     ensures out_after { out.new ≡ writer.leaves (writer.event_answer plan event increments.now) out.old at (script.event_numbers event increments.now) }
 {
-    let number = event_answer(plan, event, increments);
-    if number != 0 {
-        return Written::Refused(number);
-    }
+    event_answer(plan, event, increments)?;
     match event {
         Event::Advance(d) => {
             let head = [1, d];

@@ -2,7 +2,7 @@
 use mathlib.Core.Path.{ap, ◌∙◌}
 use Rattle.number.specs.Number.{number_bytes}
 use Rattle.writer.specs.Laws.{short, long}
-use Rattle.writer.specs.declared.Written.TheVariants as written
+use Rattle.writer.specs.Write.{Bytes}
 use native.Mathlib.Omega.{arith}
 use Rattle.writer.proofs.write_number.Goals as goal
 
@@ -24,7 +24,7 @@ returns c = let l = long c.args.out.now
       arith,
       c.size-count.ensures,
     )) in record {
-      value = ap written.Bytes c.size-count.ensures ∙ l.0;
+      value = ap Bytes c.size-count.ensures ∙ l.0;
       out_after = c.put_number.ensures.out_after
           ∙ l.1;
     }

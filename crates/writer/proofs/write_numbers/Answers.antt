@@ -7,7 +7,7 @@ use lib.ListN.{length}
 use Rattle.number.specs.Number.{bytes_of, laid}
 use Rattle.number.proofs.Laws.{rows-length}
 use Rattle.writer.specs.Laws.{rows-laid, short, long}
-use Rattle.writer.specs.declared.Written.TheVariants as written
+use Rattle.writer.specs.Write.{Bytes}
 use native.Mathlib.Omega.{arith}
 use Rattle.writer.proofs.write_numbers.Goals as goal
 
@@ -49,7 +49,7 @@ returns c =
     let l = long a.out.now a.at (bytes_of (a.head.now ++ a.tail.now)) (omega arith) in
     let sum : c.width-first.result + c.width-second.result ≡ length
     (bytes_of (a.head.now ++ a.tail.now)) = omega arith in record {
-      value = ap written.Bytes sum ∙ l.0;
+      value = ap Bytes sum ∙ l.0;
       out_after = c.put_numbers.ensures.out_after
           ∙ ap₂ (λ (o : List ℕ) (k : ℕ). laid o k (bytes_of a.tail.now))
           c.put_numbers-next.ensures.out_after

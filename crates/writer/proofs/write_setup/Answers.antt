@@ -2,18 +2,19 @@
 use mathlib.Core.Path.{refl}
 use Rattle.script.specs.Write.{setup_numbers}
 use Rattle.writer.specs.Laws.{refused-writes, accepted-writes}
+use Rattle.std.proofs.lemmas.Result.{err_from_is_err_and}
+use Rattle.refusal.proofs.Laws.{refused}
 use Rattle.writer.proofs.write_setup.Goals as goal
 
-pub returns-then-number-ne0 : goal.returns-then-number-ne0
-returns-then-number-ne0 c =
-    record { value = (refused-writes _ _ _ _ _ c.answer-number.ensures c.if-number-ne0.true).0; out_after = (refused-writes _ _ _ _ _ c.answer-number.ensures c.if-number-ne0.true).1 }
+pub returns-in_err-answer : goal.returns-in_err-answer
+returns-in_err-answer c =
+    let p = err_from_is_err_and c.from_residual.result c.from_residual.ensures.1 in
+    let w = refused-writes _ _ _ _ _ c.in_err-answer.ensures (refused _) in
+    rw (p.1, p.2) (record { value = w.0; out_after = w.1 })
 
 pub returns : goal.returns
 unfolding setup_numbers
 returns c =
-    record {
-      value = (accepted-writes _ _ _ _ _ c.answer-number.ensures
-          c.if-number-ne0.false _ _ _ refl (c.write_numbers.ensures.value, c.write_numbers.ensures.out_after)).0;
-      out_after = (accepted-writes _ _ _ _ _ c.answer-number.ensures
-          c.if-number-ne0.false _ _ _ refl (c.write_numbers.ensures.value, c.write_numbers.ensures.out_after)).1;
-    }
+    let w = accepted-writes _ _ _ _ _ c.in_ok-answer.ensures refl _ _ _ refl
+    (c.write_numbers.ensures.value, c.write_numbers.ensures.out_after) in
+    record { value = w.0; out_after = w.1 }
