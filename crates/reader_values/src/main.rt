@@ -13,12 +13,13 @@ const REHEARSAL: [u8; 51] = [
 // The answer to reading an event at a place, the place then, and the rest. Answers that place.
 fn show_event(rt: &impl Print, bytes: &[u8], at: usize, stations: u64) -> Result<usize> {
     let read = reader::event_at(bytes, at, stations);
-    print!(rt; "{} {}:", read.answer, read.next)?;
+    let next = read.map_or(bytes.len(), |event| event.next);
+    print!(rt; "{} {next}:", refusal::answer(&read))?;
     for byte in reader::rest_behind(bytes, at, stations) {
         print!(rt; " {byte:02x}")?;
     }
     print!(rt; "\n")?;
-    Ok(read.next)
+    Ok(next)
 }
 
 // The eight events of the rehearsal, one after the other, and what a ninth is answered.

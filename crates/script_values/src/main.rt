@@ -2,9 +2,8 @@
 // document 01's rehearsal script gives.
 #![tactic(auto)]
 
-use number::Number;
-use std::io::Result;
-use writer::Written;
+use refusal::Refusal;
+use std::io;
 
 // Document 01's rehearsal script: a setup of 11 bytes and eight events of 5.
 const REHEARSAL: [u8; 51] = [
@@ -13,19 +12,19 @@ const REHEARSAL: [u8; 51] = [
 ];
 
 // What reading the first number of the bytes answers.
-fn show_read(rt: &impl Print, bytes: &[u8]) -> Result<()> {
+fn show_read(rt: &impl Print, bytes: &[u8]) -> io::Result<()> {
     match number::read_number(bytes, 0) {
-        Number::Value(v, next) => print!(rt; "{v} in {next}\n"),
-        Number::Refused(n) => print!(rt; "refused {n}\n"),
+        Ok((v, next)) => print!(rt; "{v} in {next}\n"),
+        Err(refusal) => print!(rt; "refused {refusal}\n"),
     }
 }
 
 // A number written, the buffer then, and what it reads as.
-fn there_and_back(rt: &impl Print, v: u64) -> Result<()> {
+fn there_and_back(rt: &impl Print, v: u64) -> io::Result<()> {
     let mut buffer = [0xEE; 12];
-    let Written::Bytes(_) = writer::write_number(v, &mut buffer, 0) else {
+    if writer::write_number(v, &mut buffer, 0).is_err() {
         return print!(rt; "not written\n");
-    };
+    }
     for byte in buffer {
         print!(rt; "{byte:02x} ")?;
     }
@@ -33,7 +32,7 @@ fn there_and_back(rt: &impl Print, v: u64) -> Result<()> {
     show_read(rt, &buffer)
 }
 
-fn numbers(rt: &impl Print) -> Result<()> {
+fn numbers(rt: &impl Print) -> io::Result<()> {
     there_and_back(rt, 0)?;
     there_and_back(rt, 127)?;
     there_and_back(rt, 128)?;
@@ -53,21 +52,23 @@ fn numbers(rt: &impl Print) -> Result<()> {
 }
 
 // What writing 128 at a place of a buffer of three bytes answers.
-fn show_room(rt: &impl Print, at: usize) -> Result<()> {
+fn show_room(rt: &impl Print, at: usize) -> io::Result<()> {
     let mut buffer = [0; 3];
     match writer::write_number(128, &mut buffer, at) {
-        Written::Bytes(n) => print!(rt; "written {n}\n"),
-        Written::Refused(n) => print!(rt; "refused {n}\n"),
+        Ok(n) => print!(rt; "written {n}\n"),
+        Err(refusal) => print!(rt; "refused {refusal}\n"),
     }
 }
 
 // What reading an event of three stations answers.
-fn show_event(rt: &impl Print, bytes: &[u8], at: usize) -> Result<()> {
-    let read = script::read_event(bytes, at, 3);
-    print!(rt; "{} {}\n", read.answer, read.next)
+fn show_event(rt: &impl Print, bytes: &[u8], at: usize) -> io::Result<()> {
+    match script::read_event(bytes, at, 3) {
+        Ok(read) => print!(rt; "0 {}\n", read.next),
+        Err(refusal) => print!(rt; "{refusal} {}\n", bytes.len()),
+    }
 }
 
-fn kinds(rt: &impl Print) -> Result<()> {
+fn kinds(rt: &impl Print) -> io::Result<()> {
     show_event(rt, &[0x00], 0)?;
     show_event(rt, &[0x04], 0)?;
     show_event(
@@ -80,37 +81,40 @@ fn kinds(rt: &impl Print) -> Result<()> {
     show_event(rt, &[0x02], 9)
 }
 
-// How many events of a line are read whole from a place on, and what stops the reading, 0 where nothing does.
-fn counted(bytes: &[u8], from: usize, stations: u64) -> (usize, u64) {
+// How many events of a line are read whole from a place on, and what stops the reading.
+fn counted(bytes: &[u8], from: usize, stations: u64) -> (usize, Result<(), Refusal>) {
     let mut at = from;
     for whole in 0..bytes.len() {
         if bytes.len() <= at {
-            return (whole, 0);
+            return (whole, Ok(()));
         }
-        let read = script::read_event(bytes, at, stations);
-        if read.answer != 0 {
-            return (whole, read.answer);
+        match script::read_event(bytes, at, stations) {
+            Ok(read) => at = read.next,
+            Err(refusal) => return (whole, Err(refusal)),
         }
-        at = read.next;
     }
-    (bytes.len(), 0)
+    (bytes.len(), Ok(()))
 }
 
 // The first bytes of the rehearsal: the setup's answer, how many events are whole, and what stops the reading.
-fn show_cut(rt: &impl Print, bytes: &[u8]) -> Result<()> {
-    let setup = script::read_setup(bytes, 0);
-    let (whole, stop) = counted(bytes, setup.next, setup.plan.stations);
-    print!(rt; "{}: {} {whole} {stop}\n", bytes.len(), setup.answer)
+fn show_cut(rt: &impl Print, bytes: &[u8]) -> io::Result<()> {
+    match script::read_setup(bytes, 0) {
+        Ok(read) => {
+            let (whole, stop) = counted(bytes, read.next, read.plan.stations);
+            print!(rt; "{}: 0 {whole} {}\n", bytes.len(), refusal::answer(&stop))
+        }
+        Err(refusal) => print!(rt; "{}: {refusal} 0 0\n", bytes.len()),
+    }
 }
 
-fn cuts(rt: &impl Print) -> Result<()> {
+fn cuts(rt: &impl Print) -> io::Result<()> {
     for k in 0..=REHEARSAL.len() {
         show_cut(rt, &REHEARSAL[..k])?;
     }
     Ok(())
 }
 
-fn main(rt: HostRuntime) -> Result<()> {
+fn main(rt: HostRuntime) -> io::Result<()> {
     numbers(&rt)?;
     show_room(&rt, 0)?;
     show_room(&rt, 1)?;
