@@ -1,5 +1,5 @@
 -- The numbers of document 01, "Numbers a caller gets back" and "Scripts": each refusal's own, and 0 for what is accepted.
-use Rattle.std.specs.Prelude.{ℕ, Result, Ok, Err}
+use Rattle.std.specs.Prelude.{ℕ, Option, Some, None, Result, Ok, Err}
 use Rattle.refusal.specs.declared.Refusal.{Refusal}
 use Rattle.refusal.specs.declared.Refusal.TheVariants.{Stations, Faults, Limits, Marks, Gap, Step, Spread, First, Record, Barred, Exceeds, Drifts, Passes, Overdue, NoMessage, SoundSender, Unsigned, Full, Cut, LastZero, TenthByte, Kind, Short, Long, NotSound, Rounds}
 
@@ -35,3 +35,8 @@ number Rounds = 32
 abbrev pub answer : {A : Type 0} → Result A Refusal → ℕ
 answer (Ok x) = 0
 answer (Err r) = number r
+
+-- 0 where nothing stops
+abbrev pub stop : Option Refusal → ℕ
+stop None = 0
+stop (Some r) = number r

@@ -16,7 +16,7 @@ use Rattle.event.specs.Event.{hearer}
 use Rattle.setup.specs.declared.Plan.{Plan}
 use Rattle.number.specs.Number.{laid}
 use Rattle.number.proofs.Laws.{length-laid}
-use Rattle.script.specs.declared.read.EventRead.{EventRead}
+use Rattle.script.specs.Read.{EventRead}
 use Rattle.script.specs.Read.{read_event, as_event}
 use Rattle.script.proofs.ReadLaws.{increments-long}
 use Rattle.station.specs.declared.Station.{Station}
@@ -30,9 +30,13 @@ use Rattle.line.specs.Fresh.{no_stations}
 use Rattle.text.specs.Text.{event_end, line_with, event_line, script_line, roomy, fits, fits_end, printed, behind}
 use Rattle.text.proofs.Laws.{fits-well, fits-end, end_same}
 use Rattle.text.proofs.Room.{roomy-has, line-most, end-most}
-use Rattle.run.specs.declared.Played.{Played}
-use Rattle.run.specs.declared.Heard.{Heard}
-use Rattle.run.specs.Play.{placed_to, holding, comes, play_answer, stepped, stepped_words}
+use Rattle.refusal.specs.declared.Refusal.{Refusal}
+use Rattle.refusal.specs.Refusal.{number, answer}
+use Rattle.std.specs.Prelude.{Result, Ok, Err}
+use Rattle.std.specs.Result.{result_unwrap_or}
+use Rattle.run.specs.declared.Heard as code
+use Rattle.run.specs.Hearing.{Heard, as_heard}
+use Rattle.run.specs.Play.{Played, as_played, placed_to, holding, comes, play_answer, stepped, stepped_words}
 use Rattle.run.specs.Play.{played as event_played, played_words}
 use Rattle.run.specs.Limits.{Held, held-is, held-settled, table-station}
 use Rattle.run.specs.Hearing.{seats, Noted, DoesBy, signed_to, signed-length, noted-all, recipient_or, line-heard}
@@ -305,6 +309,19 @@ step-plan l words e increments = go (eqb (step_answer (run_of l words) e increme
     go : (b : Bool) → (pick b (holding l (effect (run_of l words) e increments)) l).plan ≡ l.plan
     go true = refl
     go false = refl
+
+-- what an event comes to, by the number that is answered and the run that stands then
+pub came : (l : Line) (r : Result Line Refusal) (k : ℕ) (next : Line) → k ≡ answer r → next ≡ result_unwrap_or r l
+    → as_played l r ≡ record { answer = k; line = next }
+came l (Ok x) k next e f = λ i. record { answer = sym e i; line = sym f i }
+came l (Err r) k next e f = λ i. record { answer = sym e i; line = sym f i }
+
+-- and at the station that hears it
+pub came-heard : (s : Station) (count : ℕ) (r : Result code.Heard Refusal) (k : ℕ) (h : code.Heard) → k ≡ answer r
+    → h ≡ result_unwrap_or r (record { station = s; count = count })
+    → as_heard s count r ≡ record { answer = k; station = h.station; count = h.count }
+came-heard s count (Ok x) k h e f = λ i. record { answer = sym e i; station = (sym f i).station; count = (sym f i).count }
+came-heard s count (Err r) k h e f = λ i. record { answer = sym e i; station = (sym f i).station; count = (sym f i).count }
 
 -- one station in its new place
 module _ {n : ℕ} {l : Line} {signed end : List ℕ} {long : ℕ} (b : Beside n l signed end long) (i : ℕ) (h : Heard)

@@ -1,7 +1,7 @@
 -- Deliver and faulty send as the code plays them: a station takes its new place and what it sends follows the messages that
 -- stand. That is the event's effect, and each table of refusals is met test by test.
 use Prim.Native.Nat.{ℕ, zero, suc, ◌+◌, ◌*◌, ◌-◌, ◌^◌, ◌<◌, ◌≤◌}
-use Rattle.std.specs.Prelude.{Bool, true, false, ◌&&◌, ◌≡◌, ltb, eqb, set}
+use Rattle.std.specs.Prelude.{Result, Ok, Err, Bool, true, false, ◌&&◌, ◌≡◌, ltb, eqb, set}
 use Rattle.std.proofs.Math.Bool.{not}
 use mathlib.Core.List.{List, [], ◌++◌}
 use Rattle.std.proofs.Math.Path.{refl, sym}
@@ -13,6 +13,8 @@ use Rattle.std.proofs.Math.Seq.{get_or-set_other}
 use Rattle.std.proofs.lemmas.List.{set-get_or}
 use borrow.Author.Tests.{lt-ltb, le-ltb, le-leb, eq-eqb, ne_eqb}
 use Rattle.clock.specs.Limits.{max_flight}
+use Rattle.refusal.specs.declared.Refusal.{Refusal}
+use Rattle.refusal.specs.Refusal.{number}
 use Rattle.clock.specs.Pick.{pick, refuse}
 use Rattle.clock.specs.declared.Moment.{Moment}
 use Rattle.mask.specs.Mask.{has}
@@ -39,11 +41,22 @@ use Rattle.line.proofs.Order.{sixteen, deliver-last, seventeen, eighteen, send-l
 use Rattle.line.specs.Held.{first_of, run_of}
 use Rattle.line.specs.HeldLaws.{first-length, place-some}
 use Rattle.line.specs.Moves.{heard, heard_run}
-use Rattle.run.specs.declared.Played.{Played}
-use Rattle.run.specs.declared.Heard.{Heard}
-use Rattle.run.specs.Play.{placed_to, holding, comes-yes, ruled, ruled_words, stepped, stepped_words, deliver_of, step-comes, deliver-any, send-any}
+use Rattle.run.specs.declared.Heard as code
+use Rattle.run.specs.Play.{Played, placed_to, holding, comes-yes, ruled, ruled_words, stepped, stepped_words, deliver_of, step-comes, deliver-any, send-any}
 use Rattle.run.specs.Limits.{Held, Settled, held-count, held-settled, station-small, table-station, deliver-recipient, send-recipient}
 use Rattle.run.specs.Sends.{sent_by, length-sends}
+
+-- what an event comes to at the station that hears it: 0, or the number that refuses it, the station then, and how many messages
+-- there are
+pub record Heard : Type 0 where
+  pub answer : ℕ
+  pub station : Station
+  pub count : ℕ
+
+-- refused, station and messages are as they were
+abbrev pub as_heard : Station → ℕ → Result code.Heard Refusal → Heard
+as_heard s count (Ok h) = record { answer = 0; station = h.station; count = h.count }
+as_heard s count (Err r) = record { answer = number r; station = s; count = count }
 
 -- ---- one station in its new place
 
@@ -65,12 +78,13 @@ sends_at l i o = sends l.plan l.time.0 i (waits (station_at (run_of l []) i)) o
 abbrev pub placed : Line → ℕ → ℕ → Outcome → Played
 placed l count i o = record { answer = 0; line = became l count i o }
 
+-- the record with station i in its new place, and so many messages
+abbrev pub seated : Line → ℕ → Station → ℕ → Line
+seated l i s count = record { plan = l.plan; time = l.time; length = l.length; stations = set l.stations i s; count = count }
+
 -- what an event comes to, the station that hears it in its new place
 abbrev pub seats : Line → ℕ → Heard → Played
-seats l i h = record {
-  answer = h.answer;
-  line = record { plan = l.plan; time = l.time; length = l.length; stations = set l.stations i h.station; count = h.count };
-}
+seats l i h = record { answer = h.answer; line = seated l i h.station h.count }
 
 -- as the code comes to it: the station's round is read off the record
 pub take-placed : (l : Line) (words : List ℕ) (n i : ℕ) (o : Outcome) (s : Station) (after : ℕ) (w : List ℕ) → s ≡ station_at (run_of l []) i

@@ -3,15 +3,15 @@
 use Rattle.std.specs.Prelude.{ℕ, zero, suc, ◌+◌, ◌-◌, Bool, ◌&&◌, List, [], ltb, eqb, length, take}
 use Rattle.clock.specs.Limits.{max_script}
 use Rattle.clock.specs.Pick.{pick}
+use Rattle.refusal.specs.Refusal.{stop}
 use Rattle.event.specs.declared.Event.{Event}
 use Rattle.number.specs.Number.{laid}
-use Rattle.script.specs.declared.read.EventRead.{EventRead}
-use Rattle.script.specs.Read.{read_event, as_event}
+use Rattle.script.specs.Read.{EventRead, read_event, as_event}
 use Rattle.line.specs.declared.Line.{Line}
 use Rattle.line.specs.Held.{first_of, run_of, bad_line}
 use Rattle.line.specs.Fresh.{no_stations}
 use Rattle.text.specs.Text.{event_line, script_line, roomy}
-use Rattle.run.specs.declared.parts.Part.{Part}
+use Rattle.run.specs.declared.parts.Part as code
 use Rattle.run.specs.Play.{placed_to, play_answer, played as event_played, played_words}
 
 -- where the playing stands: its answer, the record and its words, the place of the next event, the number of the last one
@@ -99,6 +99,18 @@ unfoldable pub played : Line → List ℕ → List ℕ → ℕ → ℕ → List 
 played l words bytes at number out place =
     pick (bad_line l words) (standing 10 l words at number out place)
     (played_from (max_script - number) bytes (standing 0 (seated l) words at number out place))
+
+-- how far a script is played: 0, or 10 for the record, or 21 to 24 where the script can't be read on; the run, the place of the
+-- next event, the number of the last one played and the place behind its line
+pub record Part : Type 0 where
+  pub answer : ℕ
+  pub line : Line
+  pub next : ℕ
+  pub number : ℕ
+  pub place : ℕ
+
+abbrev pub as_part : code.Part → Part
+as_part p = record { answer = stop p.stop; line = p.line; next = p.next; number = p.number; place = p.place }
 
 -- as the code answers it
 abbrev pub part_of : Standing → Part

@@ -1,10 +1,12 @@
 -- An event on the record that the code holds: the answer, and the run and the words then. An accepted one leaves what document
 -- 01's step gives, and a refused one leaves all as it was.
-use Rattle.std.specs.Prelude.{ℕ, zero, suc, true, false, List, [], ◌≡◌, eqb, length, get_or, set}
+use Rattle.std.specs.Prelude.{ℕ, Result, Ok, Err, zero, suc, true, false, List, [], ◌≡◌, eqb, length, get_or, set}
 use Rattle.std.proofs.Math.Path.{refl}
 use Rattle.std.proofs.Common.{ap}
 use borrow.Author.Tests.{ne_eqb}
 use Rattle.clock.specs.Pick.{pick, refuse}
+use Rattle.refusal.specs.declared.Refusal.{Refusal}
+use Rattle.refusal.specs.Refusal.{number}
 use Rattle.station.specs.declared.Station.{Station}
 use Rattle.flight.specs.declared.Names.{Names}
 use Rattle.flight.specs.Message.{coded}
@@ -15,7 +17,6 @@ use Rattle.line.specs.declared.Line.{Line}
 use Rattle.line.specs.Run.{Run, no_station}
 use Rattle.line.specs.Event.{effect, event_rules, step_answer}
 use Rattle.line.specs.Held.{run_of, bad_line}
-use Rattle.run.specs.declared.Played.{Played}
 
 -- ---- the record of a run
 
@@ -35,6 +36,16 @@ holding l r = record {
 }
 
 -- ---- what an event comes to
+
+-- what it comes to: 0, or the number that refuses it, and the run then
+pub record Played : Type 0 where
+  pub answer : ℕ
+  pub line : Line
+
+-- refused, the run is as it was
+abbrev pub as_played : Line → Result Line Refusal → Played
+as_played l (Ok next) = record { answer = 0; line = next }
+as_played l (Err r) = record { answer = number r; line = l }
 
 -- the answer, and where it is 0 the run that the event leaves
 unfoldable pub comes : ℕ → Line → Run → Played
@@ -76,10 +87,10 @@ deliver_of x = Deliver x.sender x.recipient x.round x.kind
 
 module _ (l : Line) (words : List ℕ) (r : Run) (answer : ℕ) where
   -- refused, all is as it was
-  pub comes-no : (number : ℕ) → answer ≡ number → (number ≡ 0 → ⊥)
-      → (record { answer = number; line = l } ≡ comes answer l r) × (words ≡ comes_words answer words r)
+  pub comes-no : (k : ℕ) → answer ≡ k → (k ≡ 0 → ⊥)
+      → (record { answer = k; line = l } ≡ comes answer l r) × (words ≡ comes_words answer words r)
   unfolding comes comes_words
-  comes-no number e z = rw (e, ne_eqb number 0 z) (refl, refl)
+  comes-no k e z = rw (e, ne_eqb k 0 z) (refl, refl)
 
   -- accepted, the run that the event leaves
   pub comes-yes : (next : Line) (after : List ℕ) → answer ≡ 0 → next ≡ holding l r → after ≡ coded words r.flight

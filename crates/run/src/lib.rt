@@ -27,15 +27,9 @@ use event::Event;
 use flight::{Message, Names};
 use line::Line;
 pub use parts::{Part, play_part};
+use refusal::Refusal;
 use setup::Plan;
 use station::{Outcome, Station};
-
-// What an event comes to: 0, or the number that refuses it, and the run then.
-#[derive(Clone, Copy)]
-pub struct Played {
-    pub answer: u64,
-    pub line: Line,
-}
 
 // ---- what a station sends
 
@@ -114,11 +108,9 @@ fn tell(
 
 // ---- hearing
 
-// What an event comes to at the station that hears it: 0, or the number that refuses it, the station then, and how many
-// messages there are.
+// A station that has heard, and how many messages there are then.
 #[derive(Clone, Copy)]
 struct Heard {
-    answer: u64,
     station: Station,
     count: u64,
 }
@@ -165,34 +157,25 @@ fn deliver(
     words: &mut [u64],
     places: &mut [u64],
     names: Names,
-) -> Heard
+) -> Result<Heard, Refusal>
     requires { hear.Stands plan time count names.recipient s words.old }
-    ensures { hear.Does plan time count names.recipient s words.old (play.deliver_of names) result words.new }
+    ensures { hear.Does plan time count names.recipient s words.old (play.deliver_of names) (hear.as_heard s count result) words.new }
 {
     let at = flight::find(words, count, names, places);
     if at == count {
-        return Heard {
-            answer: 16,
-            station: s,
-            count,
-        };
+        return Err(Refusal::NoMessage);
     }
     let m = flight::message_at(words, at);
     let o = station::heard(plan, names.round, m.signers, s);
     if MAX_FLIGHT < count - 1 + count_sent(plan, names.recipient, o) {
-        return Heard {
-            answer: 19,
-            station: s,
-            count,
-        };
+        return Err(Refusal::Full);
     }
     let left = take_out(words, count, at, places);
     if quiet(o) {
-        return Heard {
-            answer: 0,
+        return Ok(Heard {
             station: o.station,
             count: left,
-        };
+        });
     }
     let after = tell_noted(
         words,
@@ -204,11 +187,10 @@ fn deliver(
         o,
         places,
     );
-    Heard {
-        answer: 0,
+    Ok(Heard {
         station: o.station,
         count: after,
-    }
+    })
 }
 
 // Whether station i is a sound signer whose last signed round is another.
@@ -250,47 +232,33 @@ fn send(
     recipient: u64,
     round: u64,
     signers: u64,
-) -> Heard
+) -> Result<Heard, Refusal>
     requires stands { hear.Stands plan time count recipient s words.old }
     requires signed_len { length signed.now ≡ 12 }
-    ensures { hear.DoesBy signed.now plan time count recipient s words.old (Send sender recipient round signers) result
-        words.new }
+    ensures { hear.DoesBy signed.now plan time count recipient s words.old (Send sender recipient round signers)
+        (hear.as_heard s count result) words.new }
 {
     if !mask::has(plan.faulty, sender) {
-        return Heard {
-            answer: 17,
-            station: s,
-            count,
-        };
+        return Err(Refusal::SoundSender);
     }
     if unsigned(plan, signed, s, round, signers) {
-        return Heard {
-            answer: 18,
-            station: s,
-            count,
-        };
+        return Err(Refusal::Unsigned);
     }
     let o = station::heard(plan, round, signers, s);
     if MAX_FLIGHT < count + count_sent(plan, recipient, o) {
-        return Heard {
-            answer: 19,
-            station: s,
-            count,
-        };
+        return Err(Refusal::Full);
     }
     if quiet(o) {
-        return Heard {
-            answer: 0,
+        return Ok(Heard {
             station: o.station,
             count,
-        };
+        });
     }
     let after = tell_noted(words, count, plan, time, recipient, s.round + 1, o, places);
-    Heard {
-        answer: 0,
+    Ok(Heard {
         station: o.station,
         count: after,
-    }
+    })
 }
 
 // What an event comes to at the station that hears it.
@@ -303,18 +271,14 @@ fn hear(
     words: &mut [u64],
     places: &mut [u64],
     event: Event,
-) -> Heard
+) -> Result<Heard, Refusal>
     requires stands { hear.Stands plan time count (hear.recipient_or plan.stations event) s words.old }
     requires signed_len { length signed.now ≡ 12 }
-    ensures { hear.DoesBy signed.now plan time count (hear.recipient_or plan.stations event) s words.old event result
-        words.new }
+    ensures { hear.DoesBy signed.now plan time count (hear.recipient_or plan.stations event) s words.old event
+        (hear.as_heard s count result) words.new }
 {
     match event {
-        Event::Advance(_) => Heard {
-            answer: 11,
-            station: s,
-            count,
-        },
+        Event::Advance(_) => Err(Refusal::Barred),
         Event::Deliver {
             sender,
             recipient,
@@ -356,16 +320,13 @@ fn note_signed(l: Line, signed: &mut [u64])
 }
 
 // The station that has heard takes its new place.
-fn seat(mut l: Line, i: u64, h: Heard) -> Played
+fn seat(mut l: Line, i: u64, h: Heard) -> Line
     requires { i < 12 }
-    ensures { result ≡ hear.seats l i h }
+    ensures { result ≡ hear.seated l i h.station h.count }
 {
     l.stations[i as usize] = h.station;
     l.count = h.count;
-    Played {
-        answer: h.answer,
-        line: l,
-    }
+    l
 }
 
 // ---- advancing
@@ -382,11 +343,11 @@ struct Meets {
 fn meets_at(plan: Plan, d: u64, by: u64, i: u64, s: Station) -> Meets
     ensures { result ≡ going.meets_in plan d by i s }
 {
-    let number = station::refuses(plan, by, s);
+    let refused = station::refuses(plan, by, s).err();
     Meets {
-        exceeds: number == 12,
+        exceeds: refused == Some(Refusal::Exceeds),
         drifts: line::sound(plan, i) && !clock::in_drift(plan.drift, d, by),
-        passes: number == 14,
+        passes: refused == Some(Refusal::Passes),
     }
 }
 
@@ -453,85 +414,61 @@ fn tell_all(l: Line, words: &mut [u64], d: u64, increments: &[u64]) -> u64
 }
 
 // Advance: readings and time move, and those that land sign.
-fn advance(l: Line, words: &mut [u64], d: u64, increments: &[u64]) -> Played
+fn advance(l: Line, words: &mut [u64], d: u64, increments: &[u64]) -> Result<Line, Refusal>
     requires held { Held l words.old }
     requires going { Going l d increments.now }
-    ensures value { result ≡ play.ruled l words.old (Advance d) increments.now }
+    ensures value { play.as_played l result ≡ play.ruled l words.old (Advance d) increments.now }
     ensures words_after { words.new ≡ play.ruled_words l words.old (Advance d) increments.now }
 {
     let time = l.time.after(d);
     let t = meets_some(l, d, increments);
     if (MAX_TIME < time.0) | t.exceeds {
-        return Played {
-            answer: 12,
-            line: l,
-        };
+        return Err(Refusal::Exceeds);
     }
     if t.drifts {
-        return Played {
-            answer: 13,
-            line: l,
-        };
+        return Err(Refusal::Drifts);
     }
     if t.passes {
-        return Played {
-            answer: 14,
-            line: l,
-        };
+        return Err(Refusal::Passes);
     }
     if notes::overdue(words, l.count, time, l.plan.bound) {
-        return Played {
-            answer: 15,
-            line: l,
-        };
+        return Err(Refusal::Overdue);
     }
     let Turns { stations, sent } = take_turns(l, d, increments);
     if MAX_FLIGHT < l.count + sent {
-        return Played {
-            answer: 19,
-            line: l,
-        };
+        return Err(Refusal::Full);
     }
     let count = tell_all(l, words, d, increments);
-    Played {
-        answer: 0,
-        line: Line {
-            time,
-            stations,
-            count,
-            ..l
-        },
-    }
+    Ok(Line {
+        time,
+        stations,
+        count,
+        ..l
+    })
 }
 
 // ---- events
 
 // An event that no station hears: 11 where it is barred, else an advance.
-fn pass(l: Line, words: &mut [u64], event: Event, increments: &[u64]) -> Played
+fn pass(l: Line, words: &mut [u64], event: Event, increments: &[u64]) -> Result<Line, Refusal>
     requires held { Held l words.old }
     requires nobody { l.plan.stations ≤ rule11.hearer l.plan.stations l.plan.faulty event }
-    ensures value { result ≡ play.stepped l words.old event increments.now }
+    ensures value { play.as_played l result ≡ play.stepped l words.old event increments.now }
     ensures words_after { words.new ≡ play.stepped_words l words.old event increments.now }
 {
     if event::barred(l.plan.stations, l.plan.faulty, event, increments) {
-        return Played {
-            answer: 11,
-            line: l,
-        };
+        return Err(Refusal::Barred);
     }
     match event {
         Event::Advance(d) => advance(l, words, d, increments),
-        Event::Deliver { .. } | Event::Send { .. } => Played {
-            answer: 11,
-            line: l,
-        },
+        Event::Deliver { .. } | Event::Send { .. } => Err(Refusal::Barred),
     }
 }
 
 // An event of a valid record: 11 to 19, or 0 and what it does.
-fn step(l: Line, words: &mut [u64], event: Event, increments: &[u64]) -> Played
+fn step(l: Line, words: &mut [u64], event: Event, increments: &[u64]) -> Result<Line, Refusal>
     requires { Held l words.old }
-    ensures value { result ≡ play.stepped l words.old event increments.now }
+    ensures value { play.as_played l result ≡ play.stepped l words.old event increments.now }
     ensures words_after { words.new ≡ play.stepped_words l words.old event increments.now }
 {
     let i = event::hearer(l.plan.stations, l.plan.faulty, event);
@@ -550,20 +487,17 @@ fn step(l: Line, words: &mut [u64], event: Event, increments: &[u64]) -> Played
         words,
         &mut places,
         event,
-    );
-    seat(l, i, h)
+    )?;
+    Ok(seat(l, i, h))
 }
 
 // An event of any record: 10, then as for a valid one. Refused, the run and the words are as they were.
-pub fn play(l: Line, words: &mut [u64], event: Event, increments: &[u64]) -> Played
-    ensures value { result ≡ play.played l words.old event increments.now }
+pub fn play(l: Line, words: &mut [u64], event: Event, increments: &[u64]) -> Result<Line, Refusal>
+    ensures value { play.as_played l result ≡ play.played l words.old event increments.now }
     ensures words_after { words.new ≡ play.played_words l words.old event increments.now }
 {
     if line::bad_line(l, words) {
-        return Played {
-            answer: 10,
-            line: l,
-        };
+        return Err(Refusal::Record);
     }
     step(l, words, event, increments)
 }

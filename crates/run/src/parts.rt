@@ -5,14 +5,16 @@ ghost use Rattle.clock.specs.Limits.{max_script};
 ghost use Rattle.run.specs.Part as part;
 ghost use Rattle.run.specs.Ready as laws;
 
+use super::Heard;
 use clock::MAX_SCRIPT;
 use line::Line;
+use refusal::Refusal;
 
-// How far a script is played: 0, or 10 for the record, or 21 to 24 where the script can't be read on; the run, the place of
-// the next event, the number of the last one played and the place behind its line.
+// How far a script is played: what stops it, 10 for the record or 21 to 24 where the script can't be read on; the run, the
+// place of the next event, the number of the last one played and the place behind its line.
 #[derive(Clone, Copy)]
 pub struct Part {
-    pub answer: u64,
+    pub stop: Option<Refusal>,
     pub line: Line,
     pub next: usize,
     pub number: u64,
@@ -54,22 +56,24 @@ fn play_on(
     mut long: usize,
 ) -> Part
     requires { laws.Ready line words.old signed.old end.old long }
-    ensures value { result ≡ part.part_of (part.played_from (max_script - number) bytes.now (part.standing 0 line words.old next number out.old place)) }
+    ensures value { part.as_part result ≡ part.part_of (part.played_from (max_script - number) bytes.now (part.standing 0 line words.old next number out.old place)) }
     ensures words_after { words.new ≡ (part.played_from (max_script - number) bytes.now (part.standing 0 line words.old next number out.old place)).words }
     ensures out_after { out.new ≡ (part.played_from (max_script - number) bytes.now (part.standing 0 line words.old next number out.old place)).out }
 {
     let n = line.plan.stations;
     while goes_on(bytes, next, number, out, place) {
-        let read = script::read_event(bytes, next, n);
-        if read.answer != 0 {
-            return Part {
-                answer: read.answer,
-                line,
-                next: read.next,
-                number,
-                place: text::script_line(read.answer, out, place),
-            };
-        }
+        let read = match script::read_event(bytes, next, n) {
+            Ok(read) => read,
+            Err(refusal) => {
+                return Part {
+                    stop: Some(refusal),
+                    line,
+                    next: bytes.len(),
+                    number,
+                    place: text::script_line(refusal.number(), out, place),
+                };
+            }
+        };
         let i = event::hearer(n, line.plan.faulty, read.event);
         next = read.next;
         number += 1;
@@ -77,20 +81,25 @@ fn play_on(
         if i >= n {
             // Copied: lent straight, they keep the whole answer out of registers, which is slower.
             let increments = read.increments;
-            let p = super::pass(line, words, read.event, &increments[..n as usize]);
-            notes::note_places(words, line.count, p.line.count, places);
-            line = p.line;
-            answer = p.answer;
+            let passed = super::pass(line, words, read.event, &increments[..n as usize]);
+            answer = refusal::answer(&passed);
+            let after = passed.unwrap_or(line);
+            notes::note_places(words, line.count, after.count, places);
+            line = after;
             super::note_signed(line, signed);
             long = text::line_end(line, end);
         } else {
             let was = line.stations[i as usize];
-            let h = super::hear(
+            let heard = super::hear(
                 line.plan, line.time, line.count, was, signed, words, places, read.event,
             );
+            answer = refusal::answer(&heard);
+            let h = heard.unwrap_or(Heard {
+                station: was,
+                count: line.count,
+            });
             line.stations[i as usize] = h.station;
             line.count = h.count;
-            answer = h.answer;
             signed[i as usize] = h.station.signed;
             if h.station.round != was.round {
                 long = text::line_end(line, end);
@@ -99,7 +108,7 @@ fn play_on(
         place = text::event_line(number, answer, &end[..long], out, place);
     }
     Part {
-        answer: 0,
+        stop: None,
         line,
         next,
         number,
@@ -118,13 +127,13 @@ pub fn play_part(
     out: &mut [u8],
     from: usize,
 ) -> Part
-    ensures value { result ≡ part.part_of (part.played l words.old bytes.now at played out.old from) }
+    ensures value { part.as_part result ≡ part.part_of (part.played l words.old bytes.now at played out.old from) }
     ensures words_after { words.new ≡ (part.played l words.old bytes.now at played out.old from).words }
     ensures out_after { out.new ≡ (part.played l words.old bytes.now at played out.old from).out }
 {
     if line::bad_line(l, words) {
         return Part {
-            answer: 10,
+            stop: Some(Refusal::Record),
             line: l,
             next: at,
             number: played,

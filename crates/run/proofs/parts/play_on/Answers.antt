@@ -5,28 +5,34 @@ use Rattle.std.proofs.Common.{refl, sym, ◌∙◌, take, arith}
 use Rattle.std.proofs.Math.Seq.{length-take-le}
 use Rattle.run.specs.Hearing.{line-stands}
 use Rattle.run.specs.Limits.{held-is, held-settled}
+use Rattle.refusal.proofs.Laws.{refused}
+use Rattle.script.specs.Read.{none_read}
 use Rattle.run.specs.Part.{standing}
-use Rattle.run.proofs.PartLaws.{Turned, turned_as, goes_number, ready-onward, onward-read, onward-ends, part-from, turn-held, turn-few, turn-read, turn-hearer, turn-nobody, turn-plan, turn-passes, turn-starts, turn-stays, turn-shown}
+use Rattle.run.proofs.PartLaws.{came, came-heard, Turned, turned_as, goes_number, ready-onward, onward-read, onward-ends, part-from, turn-held, turn-few, turn-read, turn-hearer, turn-nobody, turn-plan, turn-passes, turn-starts, turn-stays, turn-shown}
 use Rattle.run.proofs.parts.play_on.Goals as goal
 use Rattle.run.proofs.parts.play_on.Goals.{Joined-i-n, then-i-n, else-i-n+then-h-was, else-i-n+else-h-was}
 
 -- the turn, whichever way it went: the event is played, and the places noted are as many as before
 turned : (c : Joined-i-n)
-    → Turned c.args.line.plan.stations (standing 0 c.loop-read.line c.loop-read.words c.loop-read.next c.loop-read.number c.loop-read.out c.loop-read.place) c.read_event-read.result.event (take c.args.line.plan.stations c.read_event-read.result.increments) c.if-i-n.answer c.if-i-n.line c.if-i-n.words c.if-i-n.signed c.if-i-n.end c.if-i-n.long
+    → Turned c.args.line.plan.stations (standing 0 c.loop-next.line c.loop-next.words c.loop-next.next c.loop-next.number c.loop-next.out c.loop-next.place) c.in-Ok.read.event (take c.args.line.plan.stations c.in-Ok.read.increments) c.if-i-n.answer c.if-i-n.line c.if-i-n.words c.if-i-n.signed c.if-i-n.end c.if-i-n.long
 turned c =
-    let inv = c.loop-read.invariant in
+    let inv = c.loop-next.invariant in
     let q = c.hearer-i.ensures in
+    let l = c.loop-next.line in
     elim c.if-i-n.branch [
       | then-i-n w ↦
-          turned_as (turn-passes _ _ _ inv.on inv.beside _ _ w.pass-p.result _ w.pass-p.ensures.value w.pass-p.ensures.words_after _ w.note_signed.ensures _ _ w.line_end-long.ensures.value w.line_end-long.ensures.out_after) w.words-is w.signed-is w.end-is w.long-is w.line-is w.answer-is
+          let p = came l _ _ _ w.answer-answer.ensures w.unwrap_or-after.ensures in
+          turned_as (turn-passes _ _ _ inv.on inv.beside _ _ _ _ (sym p ∙ w.pass-passed.ensures.value) w.pass-passed.ensures.words_after _ w.note_signed.ensures _ _ w.line_end-long.ensures.value w.line_end-long.ensures.out_after) w.words-is w.signed-is w.end-is w.long-is w.line-is w.answer-is
       | else-i-n+then-h-was w ↦
-          turned_as (turn-starts _ _ _ inv.on inv.beside _ _ _ q (omega (arith, w.if-i-n.false)) w.hear-h.result _ w.hear-h.ensures _ _ w.line_end-long-then-h-was.ensures.value w.line_end-long-then-h-was.ensures.out_after) w.words-is w.signed-is w.end-is w.long-is w.line-is w.answer-is
+          let h = came-heard _ _ _ _ _ w.answer-answer-else-i-n.ensures w.unwrap_or-h.ensures in
+          turned_as (turn-starts _ _ _ inv.on inv.beside _ _ _ q (omega (arith, w.if-i-n.false)) _ _ (rw h at w.hear-heard.ensures) _ _ w.line_end-long-then-h-was.ensures.value w.line_end-long-then-h-was.ensures.out_after) w.words-is w.signed-is w.end-is w.long-is w.line-is w.answer-is
       | else-i-n+else-h-was w ↦
-          turned_as (turn-stays _ _ _ inv.on inv.beside _ _ _ q (omega (arith, w.if-i-n.false)) w.hear-h.result _ w.hear-h.ensures w.if-h-was.false) w.words-is w.signed-is w.end-is w.long-is w.line-is w.answer-is
+          let h = came-heard _ _ _ _ _ w.answer-answer-else-i-n.ensures w.unwrap_or-h.ensures in
+          turned_as (turn-stays _ _ _ inv.on inv.beside _ _ _ q (omega (arith, w.if-i-n.false)) _ _ (rw h at w.hear-heard.ensures) w.if-h-was.false) w.words-is w.signed-is w.end-is w.long-is w.line-is w.answer-is
     ]
 
-pub loop-read-init : goal.loop-read-init
-loop-read-init c =
+pub loop-next-init : goal.loop-next-init
+loop-next-init c =
     let a = c.args in
     record {
       on = ready-onward c.requires a.bytes.now a.next a.number a.out.now a.place;
@@ -35,87 +41,72 @@ loop-read-init c =
       places = refl;
     }
 
-pub shape_of-words-then-read-ne0 : goal.shape_of-words-then-read-ne0
-shape_of-words-then-read-ne0 c = c.loop-read.invariant.on.words
-
-pub shape_of-out-then-read-ne0 : goal.shape_of-out-then-read-ne0
-shape_of-out-then-read-ne0 c = c.script_line.auto.out ∙ c.loop-read.invariant.on.out
-
-pub shape_of-signed-then-read-ne0 : goal.shape_of-signed-then-read-ne0
-shape_of-signed-then-read-ne0 c = c.loop-read.invariant.beside.twelve ∙ sym c.requires.beside.twelve
-
-pub shape_of-places-then-read-ne0 : goal.shape_of-places-then-read-ne0
-shape_of-places-then-read-ne0 c = c.loop-read.invariant.places
-
-pub shape_of-end-then-read-ne0 : goal.shape_of-end-then-read-ne0
-shape_of-end-then-read-ne0 c = c.loop-read.invariant.beside.room ∙ sym c.requires.beside.room
-
-pub returns-then-read-ne0 : goal.returns-then-read-ne0
-returns-then-read-ne0 c =
-    let read = c.read_event-read in
-    let g = sym c.goes_on.ensures ∙ c.loop-read-test.true in
-    let inv = c.loop-read.invariant in
-    let from = part-from _ _ _ (onward-read _ _ _ inv.on g read.result (turn-read _ _ _ inv.on inv.beside read.result read.ensures) c.if-read-ne0.true _ _ c.script_line.ensures.value c.script_line.ensures.out_after) in
+pub returns-in-Err : goal.returns-in-Err
+unfolding none_read
+returns-in-Err c =
+    let g = sym c.goes_on.ensures ∙ c.loop-next-test.true in
+    let inv = c.loop-next.invariant in
+    let from = part-from _ _ _ (onward-read _ _ _ inv.on g _ (turn-read _ _ _ inv.on inv.beside _ c.in-Err.ensures) (refused _) _ _ (rw c.number.ensures at c.script_line.ensures.value) (rw c.number.ensures at c.script_line.ensures.out_after)) in
     record { value = from.0; words_after = from.1.0; out_after = from.1.1 }
 
 pub overflow_add-number : goal.overflow_add-number
-overflow_add-number c = omega (arith, (goes_number _ _ _ _ _ (sym c.goes_on.ensures ∙ c.loop-read-test.true)).0)
+overflow_add-number c = omega (arith, (goes_number _ _ _ _ _ (sym c.goes_on.ensures ∙ c.loop-next-test.true)).0)
 
-pub pass-p-requires : goal.pass-p-requires
-pass-p-requires c =
-    let inv = c.loop-read.invariant in
+pub pass-passed-requires : goal.pass-passed-requires
+pass-passed-requires c =
+    let inv = c.loop-next.invariant in
     record { held = turn-held _ _ _ inv.on inv.beside; nobody = turn-nobody _ _ _ inv.on inv.beside _ _ c.hearer-i.ensures c.if-i-n.true }
 
 pub note_signed-requires : goal.note_signed-requires
 note_signed-requires c =
-    let inv = c.loop-read.invariant in
-    let many = turn-plan _ _ _ inv.on inv.beside _ _ _ c.pass-p.ensures.value in
+    let inv = c.loop-next.invariant in
+    let p = came c.loop-next.line _ _ _ c.answer-answer.ensures c.unwrap_or-after.ensures in
+    let many = turn-plan _ _ _ inv.on inv.beside _ _ _ (sym p ∙ c.pass-passed.ensures.value) in
     let few = turn-few _ _ _ inv.on inv.beside in
     (omega (arith, many, few), omega (arith, many, few, inv.beside.twelve))
 
-pub hear-h-requires : goal.hear-h-requires
-hear-h-requires c =
-    let inv = c.loop-read.invariant in
+pub hear-heard-requires : goal.hear-heard-requires
+hear-heard-requires c =
+    let inv = c.loop-next.invariant in
     record { stands = line-stands (turn-held _ _ _ inv.on inv.beside) _ _ (turn-hearer _ _ _ inv.on inv.beside _ _ c.hearer-i.ensures) (omega (arith, c.if-i-n.false, inv.beside.stations)); signed_len = inv.beside.twelve }
 
 pub slice_bounds-event_line-end : goal.slice_bounds-event_line-end
 slice_bounds-event_line-end c = let b = (turned c).beside in omega (arith, b.fits, b.room)
 
-pub slice_bounds-event_line-end-in-loop-read : goal.slice_bounds-event_line-end-in-loop-read
-slice_bounds-event_line-end-in-loop-read c = let b = (turned c).beside in sym (length-take-le _ _ (omega (arith, b.fits, b.room)))
+pub slice_bounds-event_line-end-in-loop-next : goal.slice_bounds-event_line-end-in-loop-next
+slice_bounds-event_line-end-in-loop-next c = let b = (turned c).beside in sym (length-take-le _ _ (omega (arith, b.fits, b.room)))
 
-pub loop-read-smaller : goal.loop-read-smaller
-loop-read-smaller c = omega (arith, (goes_number _ _ _ _ _ (sym c.goes_on.ensures ∙ c.loop-read-test.true)).0)
+pub loop-next-smaller : goal.loop-next-smaller
+loop-next-smaller c = omega (arith, (goes_number _ _ _ _ _ (sym c.goes_on.ensures ∙ c.loop-next-test.true)).0)
 
-pub loop-read-preserved : goal.loop-read-preserved
-loop-read-preserved c =
-    let inv = c.loop-read.invariant in
-    let g = sym c.goes_on.ensures ∙ c.loop-read-test.true in
-    let read = c.read_event-read in
-    let t = turned (goal.at.loop-read-preserved c).Joined-i-n in
+pub loop-next-preserved : goal.loop-next-preserved
+loop-next-preserved c =
+    let inv = c.loop-next.invariant in
+    let g = sym c.goes_on.ensures ∙ c.loop-next-test.true in
+    let t = turned (goal.at.loop-next-preserved c).Joined-i-n in
     record {
-      on = turn-shown _ _ _ inv.on inv.beside g read.result read.ensures c.if-read-ne0.false t _ _ c.event_line-place.ensures.value c.event_line-place.ensures.out_after;
+      on = turn-shown _ _ _ inv.on inv.beside g _ c.in-Ok.ensures refl t _ _ c.event_line-place.ensures.value c.event_line-place.ensures.out_after;
       beside = t.beside;
       few = inv.few;
       places = c.if-i-n.auto.places ∙ inv.places;
     }
 
 pub shape_of-words : goal.shape_of-words
-shape_of-words c = c.loop-read.invariant.on.words
+shape_of-words c = c.loop-next.invariant.on.words
 
 pub shape_of-out : goal.shape_of-out
-shape_of-out c = c.loop-read.invariant.on.out
+shape_of-out c = c.loop-next.invariant.on.out
 
 pub shape_of-signed : goal.shape_of-signed
-shape_of-signed c = c.loop-read.invariant.beside.twelve ∙ sym c.requires.beside.twelve
+shape_of-signed c = c.loop-next.invariant.beside.twelve ∙ sym c.requires.beside.twelve
 
 pub shape_of-places : goal.shape_of-places
-shape_of-places c = c.loop-read.invariant.places
+shape_of-places c = c.loop-next.invariant.places
 
 pub shape_of-end : goal.shape_of-end
-shape_of-end c = c.loop-read.invariant.beside.room ∙ sym c.requires.beside.room
+shape_of-end c = c.loop-next.invariant.beside.room ∙ sym c.requires.beside.room
 
 pub returns : goal.returns
 returns c =
-    let from = part-from _ _ _ (onward-ends _ _ _ c.loop-read.invariant.on (sym c.goes_on.ensures ∙ c.loop-read-test.false)) in
+    let from = part-from _ _ _ (onward-ends _ _ _ c.loop-next.invariant.on (sym c.goes_on.ensures ∙ c.loop-next-test.false)) in
     record { value = from.0; words_after = from.1.0; out_after = from.1.1 }

@@ -8,13 +8,13 @@ use Rattle.run.specs.Ready.{Beside}
 use Rattle.run.proofs.PartLaws.{Onward}
 use Rattle.run.proofs.parts.play_on.Given as goal
 
-abbrev pub invariant-loop-read : goal.invariant-loop-read
-invariant-loop-read l = record {
+abbrev pub invariant-loop-next : goal.invariant-loop-next
+invariant-loop-next l = record {
   on : Onward l.bytes (standing 0 l.initial.line l.initial.words l.initial.next l.initial.number l.initial.out l.initial.place) (standing 0 l.line l.words l.next l.number l.out l.place);
   beside : Beside l.n l.line l.signed l.end l.long;
   few : l.n ≤ 12;
   places : length l.places ≡ length l.initial.places;
 }
 
-abbrev pub decreases-loop-read : goal.decreases-loop-read
-decreases-loop-read l = max_script - l.number
+abbrev pub decreases-loop-next : goal.decreases-loop-next
+decreases-loop-next l = max_script - l.number
