@@ -14,12 +14,12 @@ use Rattle.setup.specs.declared.Plan.{Plan}
 use Rattle.setup.specs.Setup.{setup_answer}
 use Rattle.event.specs.declared.Event.{Event}
 use Rattle.number.proofs.Laws.{laid_none, laid_on}
-use Rattle.script.specs.declared.read.SetupRead.{SetupRead}
+use Rattle.script.specs.Read.{SetupRead}
 use Rattle.line.specs.declared.Line.{Line}
 use Rattle.line.specs.Run.{fresh}
 use Rattle.line.specs.Event.{event_answer, step}
 use Rattle.line.specs.Held.{run_of, bad_line}
-use Rattle.line.specs.declared.Begun.{Begun}
+use Rattle.line.specs.Fresh.{Begun}
 use Rattle.line.specs.Fresh.{no_stations, no_plan, line_for, seated_to, begun, fresh-run}
 use Rattle.text.specs.Text.{line_with, event_line, setup_line, script_line}
 use Rattle.text.proofs.Laws.{end_same}

@@ -1,18 +1,18 @@
 -- How a script opens: its setup read and answered, and the first line; and the laws by which the code answers so, each at its
 -- own test.
-use Rattle.std.specs.Prelude.{ℕ, ◌<◌, ◌≤◌, List, ◌≡◌, ltb, eqb, length, take}
+use Rattle.std.specs.Prelude.{ℕ, Bool, true, false, ◌<◌, ◌≤◌, List, ◌≡◌, ltb, eqb, length, take}
 use Rattle.std.proofs.Math.Path.{refl}
 use Rattle.std.proofs.Common.{◌∙◌}
-use borrow.Author.Tests.{lt-ltb, le-ltb, eq-eqb, ne_eqb}
+use borrow.Author.Tests.{lt-ltb, le-ltb, eq-eqb, ne_eqb, eqb-true}
 use Rattle.clock.specs.Limits.{max_script}
 use Rattle.clock.specs.Pick.{pick}
-use Rattle.script.specs.declared.read.SetupRead.{SetupRead}
+use Rattle.script.specs.Read.{SetupRead}
 use Rattle.script.specs.Read.{read_setup, as_setup}
 use Rattle.line.specs.declared.Line.{Line}
-use Rattle.line.specs.declared.Begun.{Begun}
+use Rattle.line.specs.Fresh.{Begun}
 use Rattle.line.specs.Fresh.{no_stations, no_plan, line_for, begun}
 use Rattle.text.specs.Text.{setup_line, script_line, roomy, printed, behind}
-use Rattle.run.specs.declared.parts.Part.{Part}
+use Rattle.run.specs.Part.{Part}
 
 -- how a script opens: its answer, the run, the place of its first event and the first line
 pub record Opening : Type 0 where
@@ -28,6 +28,10 @@ closed answer next first = record { answer = answer; line = line_for no_plan 0 n
 -- once the setup is read, the first line is `setup` and its answer
 abbrev pub begins : ℕ → Begun → Opening
 begins next b = record { answer = b.answer; line = b.line; next = next; first = setup_line b.answer }
+
+-- where the setup can't be read on, 1 is its answer, and else the only line is `script` and the number
+abbrev pub stopped : ℕ → ℕ → Opening
+stopped k next = closed k next (pick (eqb k 1) (setup_line k) (script_line k))
 
 -- 1 is answered as soon as n is read; where the setup can't be read on, the only line is `script` and the number
 unfoldable pub opened : SetupRead → Opening
@@ -81,3 +85,13 @@ module _ (bytes : List ℕ) (short : length bytes ≤ max_script) (r : SetupRead
     pub opening-begins : r.answer ≡ 0 → (b : Begun) → b ≡ begun r.plan (take r.plan.stations r.first) → opening bytes ≡ begins r.next b
     unfolding opened
     opening-begins e b eb = opening-read ∙ rw (ne_eqb r.answer 1 other, eq-eqb r.answer 0 e, eb) refl
+
+-- where it can't be read on: 1, or 21 to 23
+pub opening-unread : (bytes : List ℕ) → length bytes ≤ max_script → (r : SetupRead) → r ≡ as_setup bytes (read_setup bytes 0)
+    → (r.answer ≡ 0 → ⊥) → opening bytes ≡ stopped r.answer r.next
+unfolding opening opened
+opening-unread bytes short r er z = opening-read bytes short r er ∙ go (eqb r.answer 1) refl
+  where
+    go : (x : Bool) → eqb r.answer 1 ≡ x → opened r ≡ stopped r.answer r.next
+    go true e = let is : r.answer ≡ 1 = eqb-true r.answer 1 e in rw (e, is) refl
+    go false e = rw (e, ne_eqb r.answer 0 z) refl

@@ -6,7 +6,7 @@ use Rattle.clock.specs.Limits.{max_script}
 use Rattle.clock.specs.Pick.{pick}
 use Rattle.event.specs.declared.Event.{Event}
 use Rattle.number.specs.Number.{laid}
-use Rattle.script.specs.declared.read.SetupRead.{SetupRead}
+use Rattle.script.specs.Read.{SetupRead}
 use Rattle.script.specs.Read.{read_setup, as_setup, read_event, as_event}
 use Rattle.line.specs.Run.{Run, fresh}
 use Rattle.line.specs.Event.{event_answer, step}
