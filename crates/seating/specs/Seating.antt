@@ -1,25 +1,24 @@
 -- Stations in a table: what one of them does as station i of so many, and the table then; and the run by value into which all of
 -- them are taken, and from which they are put back.
-use Rattle.std.specs.Prelude.{ℕ, ◌+◌, ◌<◌, ◌≤◌, Bool, not, List, ◌≡◌, eqb, leb, length, get_or, set}
+use Rattle.std.specs.Prelude.{ℕ, Result, Ok, Err, ◌+◌, ◌<◌, ◌≤◌, Bool, not, List, ◌≡◌, eqb, leb, length, get_or, set}
 use Rattle.std.proofs.Math.Bool.{true, false}
 use Rattle.std.proofs.Math.Path.{refl}
 use Rattle.std.proofs.Common.{ap, ◌∙◌, add-one}
 use Rattle.std.proofs.lemmas.List.{set-get_or}
 use borrow.Author.Tests.{eq-eqb, ne_eqb, le-leb, lt-leb}
 use Rattle.clock.specs.Pick.{pick}
+use Rattle.refusal.specs.declared.Refusal.{Refusal}
+use Rattle.refusal.specs.Refusal.{number}
 use Rattle.setup.specs.declared.Plan.{Plan}
 use Rattle.station.specs.declared.Station.{Station}
-use Rattle.station.specs.declared.Board.{Board}
 use Rattle.station.specs.declared.Outcome.{Outcome}
 use Rattle.station.specs.Station.{still, hear, advance}
-use Rattle.station.specs.Record.{answered, hear_answer, advance_answer}
+use Rattle.station.specs.Record.{Board, answered, hear_answer, advance_answer}
 use Rattle.line.specs.declared.Line.{Line}
 use Rattle.line.specs.Run.{no_station}
 use Rattle.line.specs.Fresh.{no_stations}
-use Rattle.run.specs.declared.Played.{Played}
-use Rattle.run.specs.Play.{placed_to}
+use Rattle.run.specs.Play.{Played, placed_to}
 use Rattle.seating.specs.declared.Rest.{Rest}
-use Rattle.seating.specs.declared.Answered.{Answered}
 use Rattle.seating.specs.declared.Act.{Act}
 use Rattle.seating.specs.declared.Act.TheVariants.{Hear, Advance}
 
@@ -92,12 +91,23 @@ pub placed-none : (table stations : List Station) → table ≡ placed_to table 
 unfolding placed_to
 placed-none table stations = refl
 
--- the answer, and what the run has beside its stations
+-- the answer to a setup or an event: 0, or the number that refuses it, and what the run has beside its table then
+pub record Answered : Type 0 where
+  pub answer : ℕ
+  pub rest : Rest
+
+-- with what it has where it is refused
+abbrev pub as_answered : Rest → Result Rest Refusal → Answered
+as_answered rest (Ok next) = record { answer = 0; rest = next }
+as_answered rest (Err r) = record { answer = number r; rest = rest }
+
+-- what the run has beside its stations
+abbrev pub rest_of : Line → Rest
+rest_of l = record { plan = l.plan; time = l.time; count = l.count }
+
+-- and the answer
 abbrev pub answered_of : Played → Answered
-answered_of p = record {
-  answer = p.answer;
-  rest = record { plan = p.line.plan; time = p.line.time; count = p.line.count };
-}
+answered_of p = record { answer = p.answer; rest = rest_of p.line }
 
 -- ---- a board's step after its tests
 
@@ -124,9 +134,9 @@ step-comes plan table i act s r p taken did left stored =
     (r-is, stored ∙ ap (set table i) (left ∙ ap (λ (b : Board). b.outcome.station) r-is))
 
 module _ (plan : Plan) (i : ℕ) (s : Station) where
-  refuses : (number : ℕ) (o : Outcome) → (number ≡ 0 → ⊥) → (answered number s o).outcome.station ≡ s
+  refuses : (k : ℕ) (o : Outcome) → (k ≡ 0 → ⊥) → (answered k s o).outcome.station ≡ s
   unfolding answered still
-  refuses number o z = rw (ne_eqb number 0 z) refl
+  refuses k o z = rw (ne_eqb k 0 z) refl
 
   kept : (b c : Bool) (a : Act) → ((pick {A = Board} b (refused 10 s) (pick c (refused 11 s) (does plan i a s))).answer ≡ 0 → ⊥)
       → (pick {A = Board} b (refused 10 s) (pick c (refused 11 s) (does plan i a s))).outcome.station ≡ s

@@ -6,13 +6,14 @@ ghost use Rattle.std.specs.Prelude.{◌≡◌, ◌<◌, length, get_or, set};
 ghost use Rattle.line.specs.Run.{no_station};
 ghost use Rattle.line.specs.Fresh.{no_stations};
 ghost use Rattle.run.specs.Play.{placed_to};
+ghost use Rattle.station.specs.Record as board;
 ghost use Rattle.seating.specs.Seating as seats;
 
 use clock::Moment;
 use line::Line;
-use run::Played;
+use refusal::Refusal;
 use setup::Plan;
-use station::{Board, Outcome, Station};
+use station::{Outcome, Station};
 
 // What a run has beside its table: its plan, its time, and how many messages are in flight.
 #[derive(Clone, Copy)]
@@ -20,13 +21,6 @@ pub struct Rest {
     pub plan: Plan,
     pub time: Moment,
     pub count: u64,
-}
-
-// The answer to a setup or an event: 0, or the number that refuses it, and what the run has beside its table then.
-#[derive(Clone, Copy)]
-pub struct Answered {
-    pub answer: u64,
-    pub rest: Rest,
 }
 
 // ---- one station of the table
@@ -57,14 +51,14 @@ pub enum Act {
 }
 
 // What station i of so many does: 10 where the table has not n of them, 11 where it is at n or above, else its own answer.
-fn done(plan: Plan, many: usize, i: usize, act: Act, s: Station) -> Board
-    ensures { result ≡ seats.done plan many i act s }
+fn done(plan: Plan, many: usize, i: usize, act: Act, s: Station) -> Result<Outcome, Refusal>
+    ensures { board.as_board s result ≡ seats.done plan many i act s }
 {
     if many as u64 != plan.stations {
-        return refused(10, s);
+        return Err(Refusal::Record);
     }
     if i as u64 >= plan.stations {
-        return refused(11, s);
+        return Err(Refusal::Barred);
     }
     match act {
         Act::Hear { round, signers } => station::hear(plan, round, signers, s),
@@ -72,28 +66,15 @@ fn done(plan: Plan, many: usize, i: usize, act: Act, s: Station) -> Board
     }
 }
 
-// A refusal leaves the station as it was.
-fn refused(answer: u64, s: Station) -> Board
-    ensures { result ≡ seats.refused answer s }
-{
-    Board {
-        answer,
-        outcome: Outcome {
-            station: s,
-            ready: false,
-            relay: 0,
-        },
-    }
-}
-
-// A station of the table does this: it is taken out, steps by value, and is put back. No other station is touched.
-pub fn step(plan: Plan, table: &mut [Station], i: usize, act: Act) -> Board
-    ensures { (result ≡ seats.stepped plan table.old i act)
+// A station of the table does this: it is taken out, steps by value, and is put back. No other station is touched, and none where
+// it is refused.
+pub fn step(plan: Plan, table: &mut [Station], i: usize, act: Act) -> Result<Outcome, Refusal>
+    ensures { (board.as_board (get_or table.old i no_station) result ≡ seats.stepped plan table.old i act)
         × (table.new ≡ seats.stepped_table plan table.old i act) }
 {
-    let board = done(plan, table.len(), i, act, take(table, i));
-    put(table, i, board.outcome.station);
-    board
+    let outcome = done(plan, table.len(), i, act, take(table, i))?;
+    put(table, i, outcome.station);
+    Ok(outcome)
 }
 
 // ---- all of them
@@ -115,20 +96,17 @@ pub fn load(rest: Rest, table: &[Station]) -> Line
     }
 }
 
-// The stations are put back into the table; those of a refusal are the ones taken out.
-pub fn store(table: &mut [Station], played: Played) -> Answered
-    ensures { (result ≡ seats.answered_of played)
-        × (table.new ≡ placed_to table.old played.line.stations 12) }
+// The stations are put back into the table, and what the run has beside it is handed back.
+pub fn store(table: &mut [Station], line: Line) -> Rest
+    ensures { (result ≡ seats.rest_of line)
+        × (table.new ≡ placed_to table.old line.stations 12) }
 {
-    for (i, &s) in played.line.stations.iter().enumerate() {
+    for (i, &s) in line.stations.iter().enumerate() {
         put(table, i, s);
     }
-    Answered {
-        answer: played.answer,
-        rest: Rest {
-            plan: played.line.plan,
-            time: played.line.time,
-            count: played.line.count,
-        },
+    Rest {
+        plan: line.plan,
+        time: line.time,
+        count: line.count,
     }
 }
