@@ -29,13 +29,13 @@ use Rattle.line.specs.History.{played as played_run}
 use Rattle.line.proofs.ValidSteps.{effect-valid, effect-plan}
 use Rattle.line.specs.Held.{run_of, bad_line}
 use Rattle.line.specs.Fresh.{no_stations, seated_to, fresh-run}
-use Rattle.run.specs.declared.Played.{Played}
+use Rattle.run.specs.Play.{Played}
 use Rattle.run.specs.Play.{placed_to, holding, comes, comes_words, play_answer}
 use Rattle.run.specs.Play as core
 use Rattle.run.proofs.Follows.{placed-length, first-placed, play-answer, play-run, play-keeps, plays-all}
 use Rattle.run.specs.Follows.{Kept, plays_all}
 use Rattle.seating.specs.declared.Rest.{Rest}
-use Rattle.seating.specs.declared.Answered.{Answered}
+use Rattle.seating.specs.Seating.{Answered}
 use Rattle.table.specs.Table.{table_run, bad_table, rest_of, table_answer, played, played_table, played_words, starting, fresh_answer, begun, begun_table}
 use Rattle.seating.specs.Seating.{line_to, line_of, answered_of}
 use Rattle.table.specs.Core.{begins}

@@ -1,25 +1,24 @@
 -- The run that goes by value, as it is called on a table: what a fresh run and a question come to on the record that the
 -- stations are taken into.
-use Rattle.std.specs.Prelude.{ℕ, Bool, true, List, ◌≡◌}
+use Rattle.std.specs.Prelude.{ℕ, Result, Ok, Err, Bool, true, List, ◌≡◌}
 use Rattle.std.proofs.Math.Bool.{false}
 use Rattle.std.proofs.Math.Path.{refl, ap}
 use Rattle.std.proofs.Common.{sym, ◌∙◌}
 use Rattle.std.proofs.Math.Dec.{eqb}
 use borrow.Author.Tests.{eq-eqb, ne_eqb, eqb-true}
 use Rattle.clock.specs.Pick.{pick}
+use Rattle.refusal.specs.declared.Refusal.{Refusal}
 use Rattle.setup.specs.Setup.{setup_answer}
 use Rattle.line.specs.declared.Line.{Line}
-use Rattle.line.specs.declared.Shown.{Shown}
-use Rattle.line.specs.declared.Led.{Led}
-use Rattle.line.specs.declared.InFlight.{InFlight}
-use Rattle.line.specs.declared.Begun.{Begun}
+use Rattle.line.specs.Question.{Shown, Led, InFlight, as_shown, as_led, as_in_flight}
+use Rattle.line.specs.Fresh.{Begun}
 use Rattle.line.specs.Fresh.{no_plan, line_for, seated_to, begun}
 use Rattle.line.specs.Question.{shown, led, in_flight}
-use Rattle.run.specs.declared.Played.{Played}
+use Rattle.run.specs.Play.{Played}
 use Rattle.table.specs.declared.Question.{Question}
 use Rattle.table.specs.declared.Question.TheVariants as asks
-use Rattle.table.specs.declared.Told.{Told}
-use Rattle.table.specs.declared.Told.TheVariants as tells
+use Rattle.table.specs.declared.Told as code
+use Rattle.table.specs.declared.Told.TheVariants as values
 
 -- ---- a fresh run
 
@@ -76,26 +75,41 @@ module _ (held : Line) (first : List ℕ) (b : Begun) (e : b ≡ begun held.plan
 
 -- ---- a question
 
+-- what is told: the answer with its values
+pub data Told : Type 0 where
+  Shown_to : Shown → Told
+  Led_to : Led → Told
+  Flying : InFlight → Told
+
+-- which are zero where it refuses
+abbrev pub as_told : Question → Result code.Told Refusal → Told
+as_told q (Ok (values.Shown x)) = Shown_to (as_shown (Ok x))
+as_told q (Ok (values.Lead x)) = Led_to (as_led (Ok x))
+as_told q (Ok (values.InFlight x)) = Flying (as_in_flight (Ok x))
+as_told (asks.Reading i) (Err r) = Shown_to (as_shown (Err r))
+as_told (asks.Lead of over) (Err r) = Led_to (as_led (Err r))
+as_told asks.InFlight (Err r) = Flying (as_in_flight (Err r))
+
 unfoldable pub told : Line → List ℕ → Question → Told
-told l words (asks.Reading i) = tells.Shown (shown l words i)
-told l words (asks.Lead of over) = tells.Led (led l words of over)
-told l words asks.InFlight = tells.InFlight (in_flight l words)
+told l words (asks.Reading i) = Shown_to (shown l words i)
+told l words (asks.Lead of over) = Led_to (led l words of over)
+told l words asks.InFlight = Flying (in_flight l words)
 
 module _ (l : Line) (words : List ℕ) (q : Question) where
-  pub told-shown : (i : ℕ) {x : Shown} → q ≡ asks.Reading i → x ≡ shown l words i → tells.Shown x ≡ told l words q
+  pub told-shown : (i : ℕ) {x : Shown} → q ≡ asks.Reading i → x ≡ shown l words i → Shown_to x ≡ told l words q
   unfolding told
-  told-shown i f e = rw f (ap tells.Shown e)
+  told-shown i f e = rw f (ap Shown_to e)
 
-  pub told-led : (of over : ℕ) {x : Led} → q ≡ asks.Lead of over → x ≡ led l words of over → tells.Led x ≡ told l words q
+  pub told-led : (of over : ℕ) {x : Led} → q ≡ asks.Lead of over → x ≡ led l words of over → Led_to x ≡ told l words q
   unfolding told
-  told-led of over f e = rw f (ap tells.Led e)
+  told-led of over f e = rw f (ap Led_to e)
 
-  pub told-in-flight : {x : InFlight} → q ≡ asks.InFlight → x ≡ in_flight l words → tells.InFlight x ≡ told l words q
+  pub told-in-flight : {x : InFlight} → q ≡ asks.InFlight → x ≡ in_flight l words → Flying x ≡ told l words q
   unfolding told
-  told-in-flight f e = rw f (ap tells.InFlight e)
+  told-in-flight f e = rw f (ap Flying e)
 
 -- the number of what is told
 abbrev pub number_of : Told → ℕ
-number_of (tells.Shown x) = x.answer
-number_of (tells.Led x) = x.answer
-number_of (tells.InFlight x) = x.answer
+number_of (Shown_to x) = x.answer
+number_of (Led_to x) = x.answer
+number_of (Flying x) = x.answer

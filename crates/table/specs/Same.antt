@@ -24,9 +24,7 @@ use Rattle.line.specs.Record.{bad_record}
 use Rattle.line.specs.History.{Entry}
 use Rattle.line.specs.Held.{first_of, run_of, bad_line}
 use Rattle.line.specs.HeldLaws.{first-length, place-some}
-use Rattle.line.specs.declared.Shown.{Shown}
-use Rattle.line.specs.declared.Led.{Led}
-use Rattle.line.specs.declared.InFlight.{InFlight}
+use Rattle.line.specs.Question.{Shown, Led, InFlight}
 use Rattle.line.specs.Question.{show_answer, shown, lead_answer, led, in_flight, shown-yes, led-yes}
 use Rattle.line.specs.Fresh.{no_stations}
 use Rattle.run.specs.Play.{placed_to}
@@ -35,7 +33,7 @@ use Rattle.run.proofs.Follows.{placed-length, placed_at, first-placed}
 use Rattle.seating.specs.declared.Rest.{Rest}
 use Rattle.table.specs.declared.Question.{Question}
 use Rattle.table.specs.declared.Question.TheVariants as asks
-use Rattle.table.specs.declared.Told.TheVariants as tells
+use Rattle.table.specs.Core as tells
 use Rattle.table.specs.Table.{table_run, bad_table, played, played_table, played_words, question_answer}
 use Rattle.seating.specs.Seating.{line_to, line_of}
 use Rattle.table.specs.Core.{picked, told, number_of}
@@ -157,16 +155,16 @@ module _ (rest : Rest) (table : List Station) (words : List ℕ) where
 
     pub shows-station : (i : ℕ) → question_answer rest table words (asks.Reading i) ≡ 0
         → told (line_of rest table) words (asks.Reading i)
-        ≡ tells.Shown (record { answer = 0; reading = (get_or table i no_station).reading; round = (get_or table i no_station).round })
+        ≡ tells.Shown_to (record { answer = 0; reading = (get_or table i no_station).reading; round = (get_or table i no_station).round })
     unfolding told
-    shows-station i z = ap tells.Shown (sym (shown-yes (line_of rest table) words i (get_or table i no_station) (asks-shown i ∙ z) (station-is i)))
+    shows-station i z = ap tells.Shown_to (sym (shown-yes (line_of rest table) words i (get_or table i no_station) (asks-shown i ∙ z) (station-is i)))
 
     pub shows-lead : (of over : ℕ) → question_answer rest table words (asks.Lead of over) ≡ 0
         → told (line_of rest table) words (asks.Lead of over)
-        ≡ tells.Led (record { answer = 0; lead = lead_of (get_or table of no_station).reading.0 (get_or table over no_station).reading.0 })
+        ≡ tells.Led_to (record { answer = 0; lead = lead_of (get_or table of no_station).reading.0 (get_or table over no_station).reading.0 })
     unfolding told
     shows-lead of over z =
-        ap tells.Led (sym (led-yes (line_of rest table) words of over (get_or table of no_station) (get_or table over no_station) _ (asks-led of over ∙ z) (station-is of) (station-is over) refl))
+        ap tells.Led_to (sym (led-yes (line_of rest table) words of over (get_or table of no_station) (get_or table over no_station) _ (asks-led of over ∙ z) (station-is of) (station-is over) refl))
 
 -- ---- a list of events
 

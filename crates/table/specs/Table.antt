@@ -1,9 +1,11 @@
 -- A run whose stations lie in one table lent by the caller: what a fresh run, an event and a question answer on a table of
 -- any length, and the table then.
-use Rattle.std.specs.Prelude.{ℕ, ◌*◌, ◌<◌, ◌≤◌, Bool, true, false, ◌||◌, not, List, ◌++◌, ◌≡◌, refl, eqb, ltb, length, get_or, take, drop}
+use Rattle.std.specs.Prelude.{ℕ, Result, Ok, Err, ◌*◌, ◌<◌, ◌≤◌, Bool, true, false, ◌||◌, not, List, ◌++◌, ◌≡◌, refl, eqb, ltb, length, get_or, take, drop}
 use Rattle.std.proofs.Common.{ap, ◌∙◌, arith, ltb-false, lt-ltb, le-ltb}
 use Rattle.clock.specs.Limits.{max_flight}
 use Rattle.clock.specs.Pick.{pick, refuse, or_else}
+use Rattle.refusal.specs.declared.Refusal.{Refusal}
+use Rattle.refusal.specs.Refusal.{number}
 use Rattle.setup.specs.declared.Plan.{Plan}
 use Rattle.setup.specs.Setup.{setup_answer}
 use Rattle.station.specs.declared.Station.{Station}
@@ -15,9 +17,9 @@ use Rattle.line.specs.Event.{effect, step_answer}
 use Rattle.line.specs.Fresh.{no_plan}
 use Rattle.run.specs.Play.{comes_words}
 use Rattle.seating.specs.declared.Rest.{Rest}
-use Rattle.seating.specs.declared.Answered.{Answered}
+use Rattle.seating.specs.Seating.{Answered}
 use Rattle.table.specs.declared.Seats.{Seats}
-use Rattle.table.specs.declared.Turned.{Turned}
+use Rattle.table.specs.declared.Turned as code
 use Rattle.table.specs.declared.Question.{Question}
 use Rattle.table.specs.declared.Question.TheVariants as asks
 
@@ -101,6 +103,16 @@ many seats = pick (ltb 12 seats.length) 12 seats.length
 
 abbrev pub lent_of : Seats → List Station
 lent_of seats = take (many seats) seats.places
+
+-- what is answered on such a table, and the table then
+pub record Turned : Type 0 where
+  pub answered : Answered
+  pub seats : Seats
+
+-- refused, the table is as it was
+abbrev pub as_turned : Rest → Seats → Result code.Turned Refusal → Turned
+as_turned rest seats (Ok x) = record { answered = record { answer = 0; rest = x.rest }; seats = x.seats }
+as_turned rest seats (Err r) = record { answered = record { answer = number r; rest = rest }; seats = seats }
 
 abbrev pub turn : Answered → Seats → List Station → Turned
 turn answered seats after = record { answered = answered; seats = record { length = seats.length; places = after } }
