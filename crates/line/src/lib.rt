@@ -104,7 +104,7 @@ fn bad_faulty(s: Station) -> bool
 }
 
 // What is shown of a station.
-#[derive(Clone, Copy)]
+#[derive(Clone, Copy, Default)]
 pub struct Shown {
     pub reading: Reading,
     pub round: u64,

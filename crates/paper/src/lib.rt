@@ -7,6 +7,7 @@ ghost use Rattle.std.specs.Io.KnownBytes.{Consumes, IsAtEnd};
 
 use clock::{Moment, Reading};
 use flight::Message;
+use refusal::Refusal;
 use station::Station;
 use std::fmt;
 use std::io::{Read, Result, Write};
@@ -147,6 +148,6 @@ pub fn show(
 }
 
 // Prints what stops the reading.
-pub fn show_stop(rt: &impl Print, stop: u64) -> Result<()> {
+pub fn show_stop(rt: &impl Print, stop: Refusal) -> Result<()> {
     println!(rt; "script {stop}")
 }

@@ -26,7 +26,7 @@ fn play(
         );
         paper::print(rt, out, part.place)?;
         part.place = 0;
-        if part.answer != 0 || part.next >= bytes.len() {
+        if part.stop.is_some() || part.next >= bytes.len() {
             return Ok(());
         }
     }
@@ -38,7 +38,7 @@ pub fn rehearse(rt: &impl Print, bytes: &[u8]) -> Result<()> {
     let mut words = [0u64; 3072];
     let mut out = io::large_buffer();
     let opened = rehearsal::open(bytes, &mut out);
-    if opened.answer != 0 {
+    if opened.stop.is_some() {
         return paper::print(rt, &out, opened.place);
     }
     play(rt, bytes, opened, &mut words, &mut out)

@@ -6,104 +6,67 @@ ghost use Rattle.std.specs.Prelude.{◌≤◌, IfOk};
 use clock::{MAX_FLIGHT, Moment, Reading};
 use event::Event;
 use flight::Message;
-use line::Line;
-use number::Number;
+use line::{Line, Shown};
 use paper::{Told, Values};
+use reader::Reader;
+use refusal::Refusal;
 use setup::Plan;
 use station::Station;
 use std::io;
 
-// The number that stops the reading of what no record has.
-const UNKNOWN: u64 = 24;
-
 // ---- numbers
 
-// The lent bytes, and where the next number begins. What stops the reading is an error.
-#[derive(Drop)]
-struct Numbers<'a> {
-    bytes: &'a [u8],
-    place: usize,
-}
-
-// The number of a refusal.
-fn refusal(answer: Number) -> u64 {
-    match answer {
-        Number::Value(_, _) => UNKNOWN,
-        Number::Refused(number) => number,
-    }
-}
-
-// A count of no more than so many.
-fn at_most(count: u64, most: u64) -> Result<usize, u64>
+// A count of no more than so many; 24 for a larger one.
+fn at_most(count: u64, most: u64) -> Result<usize, Refusal>
     ensures { IfOk result (λ n. n ≤ most) }
 {
     if count <= most {
         Ok(count as usize)
     } else {
-        Err(UNKNOWN)
+        Err(Refusal::Kind)
     }
 }
 
-impl Numbers<'_> {
-    fn next(&mut self) -> Result<u64, u64> {
-        let answer = number::read_number(self.bytes, self.place);
-        let Number::Value(v, behind) = answer else {
-            return Err(refusal(answer));
-        };
-        self.place = behind;
-        Ok(v)
-    }
+fn read_plan(numbers: &mut Reader) -> Result<Plan, Refusal> {
+    Ok(Plan {
+        stations: numbers.number()?,
+        faults: numbers.number()?,
+        drift: numbers.number()?,
+        bound: numbers.number()?,
+        spread: numbers.number()?,
+        step: numbers.number()?,
+        period: numbers.number()?,
+        faulty: numbers.number()?,
+    })
+}
 
-    fn plan(&mut self) -> Result<Plan, u64> {
-        Ok(Plan {
-            stations: self.next()?,
-            faults: self.next()?,
-            drift: self.next()?,
-            bound: self.next()?,
-            spread: self.next()?,
-            step: self.next()?,
-            period: self.next()?,
-            faulty: self.next()?,
-        })
-    }
+fn read_station(numbers: &mut Reader) -> Result<Station, Refusal> {
+    Ok(Station {
+        round: numbers.number()?,
+        reading: Reading(numbers.number()?),
+        signed: numbers.number()?,
+        gathered: numbers.number()?,
+    })
+}
 
-    fn station(&mut self) -> Result<Station, u64> {
-        Ok(Station {
-            round: self.next()?,
-            reading: Reading(self.next()?),
-            signed: self.next()?,
-            gathered: self.next()?,
-        })
-    }
+fn read_message(numbers: &mut Reader) -> Result<Message, Refusal> {
+    Ok(Message {
+        sender: numbers.number()?,
+        recipient: numbers.number()?,
+        round: numbers.number()?,
+        kind: numbers.number()?,
+        signers: numbers.number()?,
+        sent: Moment(numbers.number()?),
+    })
+}
 
-    fn message(&mut self) -> Result<Message, u64> {
-        Ok(Message {
-            sender: self.next()?,
-            recipient: self.next()?,
-            round: self.next()?,
-            kind: self.next()?,
-            signers: self.next()?,
-            sent: Moment(self.next()?),
-        })
+fn read_increments(numbers: &mut Reader) -> Result<Increments, Refusal> {
+    let count = at_most(numbers.number()?, 16)?;
+    let mut places = [0u64; 16];
+    for x in &mut places[..count] {
+        *x = numbers.number()?;
     }
-
-    fn increments(&mut self) -> Result<Increments, u64> {
-        let count = at_most(self.next()?, 16)?;
-        let mut places = [0u64; 16];
-        for x in &mut places[..count] {
-            *x = self.next()?;
-        }
-        Ok(Increments { places, count })
-    }
-
-    // The end of the bytes.
-    fn end(&self) -> Result<(), u64> {
-        if self.place == self.bytes.len() {
-            Ok(())
-        } else {
-            Err(UNKNOWN)
-        }
-    }
+    Ok(Increments { places, count })
 }
 
 // ---- an event or a question
@@ -120,9 +83,9 @@ enum Kind {
 }
 
 impl TryFrom<u64> for Kind {
-    type Error = u64;
+    type Error = Refusal;
 
-    fn try_from(code: u64) -> Result<Self, u64> {
+    fn try_from(code: u64) -> Result<Self, Refusal> {
         match code {
             1 => Ok(Kind::Advance),
             2 => Ok(Kind::Deliver),
@@ -130,7 +93,7 @@ impl TryFrom<u64> for Kind {
             11 => Ok(Kind::Reading),
             12 => Ok(Kind::Lead),
             13 => Ok(Kind::InFlight),
-            _ => Err(UNKNOWN),
+            _ => Err(Refusal::Kind),
         }
     }
 }
@@ -157,31 +120,31 @@ enum Asked {
     InFlight,
 }
 
-fn read_asked(numbers: &mut Numbers) -> Result<Asked, u64> {
-    Ok(match Kind::try_from(numbers.next()?)? {
-        Kind::Advance => Asked::Event(Event::Advance(numbers.next()?), numbers.increments()?),
+fn read_asked(numbers: &mut Reader) -> Result<Asked, Refusal> {
+    Ok(match Kind::try_from(numbers.number()?)? {
+        Kind::Advance => Asked::Event(Event::Advance(numbers.number()?), read_increments(numbers)?),
         Kind::Deliver => {
             let event = Event::Deliver {
-                sender: numbers.next()?,
-                recipient: numbers.next()?,
-                round: numbers.next()?,
-                kind: numbers.next()?,
+                sender: numbers.number()?,
+                recipient: numbers.number()?,
+                round: numbers.number()?,
+                kind: numbers.number()?,
             };
             Asked::Event(event, NONE)
         }
         Kind::Send => {
             let event = Event::Send {
-                sender: numbers.next()?,
-                recipient: numbers.next()?,
-                round: numbers.next()?,
-                signers: numbers.next()?,
+                sender: numbers.number()?,
+                recipient: numbers.number()?,
+                round: numbers.number()?,
+                signers: numbers.number()?,
             };
             Asked::Event(event, NONE)
         }
-        Kind::Reading => Asked::Reading(numbers.next()?),
+        Kind::Reading => Asked::Reading(numbers.number()?),
         Kind::Lead => Asked::Lead {
-            of: numbers.next()?,
-            over: numbers.next()?,
+            of: numbers.number()?,
+            over: numbers.number()?,
         },
         Kind::InFlight => Asked::InFlight,
     })
@@ -209,18 +172,18 @@ fn placed(count: u64) -> usize
 }
 
 impl Sheet {
-    fn read(numbers: &mut Numbers) -> Result<Sheet, u64> {
-        let plan = numbers.plan()?;
-        let time = Moment(numbers.next()?);
-        let length = at_most(numbers.next()?, 16)?;
+    fn read(numbers: &mut Reader) -> Result<Sheet, Refusal> {
+        let plan = read_plan(numbers)?;
+        let time = Moment(numbers.number()?);
+        let length = at_most(numbers.number()?, 16)?;
         let mut stations = [line::no_station(); 16];
         for s in &mut stations[..length] {
-            *s = numbers.station()?;
+            *s = read_station(numbers)?;
         }
-        let count = numbers.next()?;
+        let count = numbers.number()?;
         let mut messages = [flight::unpack(0, 0, 0); 1024];
         for m in &mut messages[..placed(count)] {
-            *m = numbers.message()?;
+            *m = read_message(numbers)?;
         }
         Ok(Sheet {
             plan,
@@ -269,69 +232,67 @@ impl Sheet {
     }
 }
 
-// Reads a record and what is asked of it.
-fn read(bytes: &[u8]) -> Result<(Sheet, Asked), u64> {
-    let mut numbers = Numbers { bytes, place: 0 };
+// Reads a record and what is asked of it; 24 for bytes behind the end.
+fn read(bytes: &[u8]) -> Result<(Sheet, Asked), Refusal> {
+    let mut numbers = Reader::at(bytes, 0);
     let sheet = Sheet::read(&mut numbers)?;
     let asked = read_asked(&mut numbers)?;
-    numbers.end()?;
+    if numbers.place() != bytes.len() {
+        return Err(Refusal::Kind);
+    }
     Ok((sheet, asked))
 }
 
 // ---- both
 
 // An event, and the record then.
-fn play(sheet: &mut Sheet, l: Line, words: &mut [u64], event: Event, by: Increments) -> Told {
-    let played = run::play(l, words, event, &by.places[..by.count]);
-    if played.answer == 0 {
-        sheet.keep(played.line, words);
-    }
-    Told {
-        answer: played.answer,
-        values: Values::Event,
-    }
+fn play(
+    sheet: &mut Sheet,
+    l: Line,
+    words: &mut [u64],
+    event: Event,
+    by: Increments,
+) -> Result<(), Refusal> {
+    let next = run::play(l, words, event, &by.places[..by.count])?;
+    sheet.keep(next, words);
+    Ok(())
 }
 
-// The reading and round of a station.
-fn reading(l: Line, words: &[u64], i: u64) -> Told {
-    let shown = line::reading(l, words, i);
-    Told {
-        answer: shown.answer,
-        values: Values::Reading {
-            reading: shown.reading,
-            round: shown.round,
-        },
-    }
-}
-
-// The lead of one station over another.
-fn lead(l: Line, words: &[u64], of: u64, over: u64) -> Told {
-    let led = line::lead(l, words, of, over);
-    Told {
-        answer: led.answer,
-        values: Values::Lead(led.lead),
-    }
-}
-
-// The number in flight.
-fn in_flight(l: Line, words: &[u64]) -> Told {
-    let flying = line::in_flight(l, words);
-    Told {
-        answer: flying.answer,
-        values: Values::InFlight(flying.count),
-    }
-}
-
-// What is asked of the record.
+// What is asked of the record: the answer, and the values of a question, which are zero where it refuses.
 fn answer(sheet: &mut Sheet, asked: Asked) -> Told {
     let mut words = [0u64; 3072];
     let laid = sheet.lay(&mut words);
     let l = sheet.line(laid);
     match asked {
-        Asked::Event(event, by) => play(sheet, l, &mut words, event, by),
-        Asked::Reading(i) => reading(l, &words, i),
-        Asked::Lead { of, over } => lead(l, &words, of, over),
-        Asked::InFlight => in_flight(l, &words),
+        Asked::Event(event, by) => {
+            let played = play(sheet, l, &mut words, event, by);
+            Told {
+                answer: refusal::answer(&played),
+                values: Values::Event,
+            }
+        }
+        Asked::Reading(i) => {
+            let shown = line::reading(l, &words, i);
+            let Shown { reading, round } = shown.unwrap_or_default();
+            Told {
+                answer: refusal::answer(&shown),
+                values: Values::Reading { reading, round },
+            }
+        }
+        Asked::Lead { of, over } => {
+            let led = line::lead(l, &words, of, over);
+            Told {
+                answer: refusal::answer(&led),
+                values: Values::Lead(led.unwrap_or_default()),
+            }
+        }
+        Asked::InFlight => {
+            let flying = line::in_flight(l, &words);
+            Told {
+                answer: refusal::answer(&flying),
+                values: Values::InFlight(flying.unwrap_or_default()),
+            }
+        }
     }
 }
 

@@ -4,9 +4,10 @@
 use clock::Moment;
 use event::Event;
 use line::Line;
+use refusal::Refusal;
 use seating::Rest;
 use setup::Plan;
-use std::io::Result;
+use std::io;
 use table::{Seats, Turned};
 
 // The run as its line shows it.
@@ -22,24 +23,23 @@ fn line_of(rest: Rest, seats: Seats) -> Line {
 }
 
 // Event number, answer, real time and the round of each station.
-fn show(rt: &impl Print, number: u64, turned: Turned) -> Result<()> {
+fn show(rt: &impl Print, number: u64, answer: u64, turned: Turned) -> io::Result<()> {
     let mut end = [0u8; 320];
     let mut out = [0u8; 320];
-    let answered = turned.answered;
-    let long = text::line_end(line_of(answered.rest, turned.seats), &mut end);
+    let long = text::line_end(line_of(turned.rest, turned.seats), &mut end);
     let Some(end) = end.get(..long) else {
         return Ok(());
     };
-    let count = text::event_line(number, answered.answer, end, &mut out, 0);
+    let count = text::event_line(number, answer, end, &mut out, 0);
     paper::print(rt, &out, count)
 }
 
 // An event on the table; in an advance the clocks of the two sound stations go on by d.
-fn play(before: Turned, words: &mut [u64], event: Event) -> Turned {
-    let rest = before.answered.rest;
+fn play(before: Turned, words: &mut [u64], event: Event) -> Result<Turned, Refusal> {
+    let Turned { rest, seats } = before;
     match event {
-        Event::Advance(d) => table::play_on(before.seats, rest, words, event, &[d, d, 0]),
-        _ => table::play_on(before.seats, rest, words, event, &[]),
+        Event::Advance(d) => table::play_on(seats, rest, words, event, &[d, d, 0]),
+        _ => table::play_on(seats, rest, words, event, &[]),
     }
 }
 
@@ -61,7 +61,7 @@ fn send(recipient: u64, signers: u64) -> Event {
     }
 }
 
-fn main(rt: HostRuntime) -> Result<()> {
+fn main(rt: HostRuntime) -> io::Result<()> {
     let plan = Plan {
         stations: 3,
         faults: 1,
@@ -83,14 +83,18 @@ fn main(rt: HostRuntime) -> Result<()> {
         Event::Advance(1),
     ];
     let places = [line::no_station(); 12];
-    let mut turned = table::fresh_on(Seats { length: 3, places }, plan, &[4, 5, 0]);
+    let begun = table::fresh_on(Seats { length: 3, places }, plan, &[4, 5, 0]);
     let mut out = [0u8; 320];
-    let count = text::setup_line(turned.answered.answer, &mut out, 0);
+    let count = text::setup_line(refusal::answer(&begun), &mut out, 0);
     paper::print(&rt, &out, count)?;
+    let Ok(mut turned) = begun else {
+        return Ok(());
+    };
     let mut words = [0u64; 3072];
     for (i, &event) in events.iter().enumerate() {
-        turned = play(turned, &mut words, event);
-        show(&rt, i as u64 + 1, turned)?;
+        let played = play(turned, &mut words, event);
+        turned = played.unwrap_or(turned);
+        show(&rt, i as u64 + 1, refusal::answer(&played), turned)?;
     }
     Ok(())
 }
