@@ -2,8 +2,9 @@
 // the answer.
 #![tactic(auto)]
 
+use refusal::Refusal;
 use setup::Plan;
-use std::io::Result;
+use std::io;
 
 // Document 01's base: n 4, f 1, r 1, T 2,000, D 2,201, A 4,202, P 1,000,000, no faulty.
 fn base() -> Plan {
@@ -19,8 +20,8 @@ fn base() -> Plan {
     }
 }
 
-fn line(rt: &impl Print, what: &str, answer: u64) -> Result<()> {
-    println!(rt; "{what}: {answer}")
+fn line(rt: &impl Print, what: &str, answer: Result<(), Refusal>) -> io::Result<()> {
+    println!(rt; "{what}: {}", refusal::answer(&answer))
 }
 
 // The base with a change.
@@ -33,12 +34,12 @@ fn with<F: Fn(&mut Plan)>(change: F) -> Plan
 }
 
 // A plan for four stations, each first reading 4,202.
-fn four(plan: Plan) -> u64 {
+fn four(plan: Plan) -> Result<(), Refusal> {
     setup::answer(plan, &[4_202; 4])
 }
 
 // The rules of the plan, at the values that document 01 gives.
-fn rules(rt: &impl Print) -> Result<()> {
+fn rules(rt: &impl Print) -> io::Result<()> {
     line(rt, "base", four(base()))?;
     let narrow = with(|p| p.spread = 2_200);
     line(rt, "D 2200", four(narrow))?;
@@ -54,7 +55,7 @@ fn rules(rt: &impl Print) -> Result<()> {
 }
 
 // The first readings: one at A + T, one past it, eleven for twelve stations.
-fn readings(rt: &impl Print) -> Result<()> {
+fn readings(rt: &impl Print) -> io::Result<()> {
     line(
         rt,
         "first reading 6202",
@@ -93,7 +94,7 @@ fn readings(rt: &impl Print) -> Result<()> {
 }
 
 // Stations, tolerated faults and faulty marks.
-fn stations(rt: &impl Print) -> Result<()> {
+fn stations(rt: &impl Print) -> io::Result<()> {
     let none = with(|p| p.stations = 0);
     line(rt, "n 0", setup::answer(none, &[4_202; 0]))?;
     let many = with(|p| p.stations = 13);
@@ -115,7 +116,7 @@ fn stations(rt: &impl Print) -> Result<()> {
 }
 
 // Just past each limit.
-fn past(rt: &impl Print) -> Result<()> {
+fn past(rt: &impl Print) -> io::Result<()> {
     line(rt, "r 101", four(with(|p| p.drift = 101)))?;
     line(rt, "T 0", four(with(|p| p.bound = 0)))?;
     line(rt, "T 1000001", four(with(|p| p.bound = 1_000_001)))?;
@@ -129,7 +130,7 @@ fn past(rt: &impl Print) -> Result<()> {
 }
 
 // At the limits: the largest numbers, the smallest that pass, and one less.
-fn limits(rt: &impl Print) -> Result<()> {
+fn limits(rt: &impl Print) -> io::Result<()> {
     let largest = Plan {
         drift: 0,
         bound: 1_000_000,
@@ -176,7 +177,7 @@ fn limits(rt: &impl Print) -> Result<()> {
     Ok(())
 }
 
-fn main(rt: HostRuntime) -> Result<()> {
+fn main(rt: HostRuntime) -> io::Result<()> {
     rules(&rt)?;
     readings(&rt)?;
     stations(&rt)?;
