@@ -30,16 +30,11 @@ use Rattle.line.specs.Fresh.{no_stations}
 use Rattle.text.specs.Text.{event_end, line_with, event_line, script_line, roomy, fits, fits_end, printed, behind}
 use Rattle.text.proofs.Laws.{fits-well, fits-end, end_same}
 use Rattle.text.proofs.Room.{roomy-has, line-most, end-most}
-use Rattle.refusal.specs.declared.Refusal.{Refusal}
-use Rattle.refusal.specs.Refusal.{number, answer}
-use Rattle.std.specs.Prelude.{Result, Ok, Err}
-use Rattle.std.specs.Result.{result_unwrap_or}
-use Rattle.run.specs.declared.Heard as code
-use Rattle.run.specs.Hearing.{Heard, as_heard}
-use Rattle.run.specs.Play.{Played, as_played, placed_to, holding, comes, play_answer, stepped, stepped_words}
+use Rattle.run.specs.Hearing.{Heard}
+use Rattle.run.specs.Play.{Played, placed_to, holding, comes, play_answer, stepped, stepped_words}
 use Rattle.run.specs.Play.{played as event_played, played_words}
 use Rattle.run.specs.Limits.{Held, held-is, held-settled, table-station}
-use Rattle.run.specs.Hearing.{seats, Noted, DoesBy, signed_to, signed-length, noted-all, recipient_or, line-heard}
+use Rattle.run.specs.Hearing.{seats, seats-same, Noted, DoesBy, signed_to, signed-length, noted-all, recipient_or, line-heard}
 use Rattle.run.proofs.Follows.{placed-length, first-placed, play-keeps, play-words}
 use Rattle.run.specs.Ready.{Beside, Ready}
 use Rattle.run.specs.Part.{Standing, goes_on, line_of, after, stops, read_at, played_from, seated, standing, played, part_of}
@@ -310,19 +305,6 @@ step-plan l words e increments = go (eqb (step_answer (run_of l words) e increme
     go true = refl
     go false = refl
 
--- what an event comes to, by the number that is answered and the run that stands then
-pub came : (l : Line) (r : Result Line Refusal) (k : ℕ) (next : Line) → k ≡ answer r → next ≡ result_unwrap_or r l
-    → as_played l r ≡ record { answer = k; line = next }
-came l (Ok x) k next e f = λ i. record { answer = sym e i; line = sym f i }
-came l (Err r) k next e f = λ i. record { answer = sym e i; line = sym f i }
-
--- and at the station that hears it
-pub came-heard : (s : Station) (count : ℕ) (r : Result code.Heard Refusal) (k : ℕ) (h : code.Heard) → k ≡ answer r
-    → h ≡ result_unwrap_or r (record { station = s; count = count })
-    → as_heard s count r ≡ record { answer = k; station = h.station; count = h.count }
-came-heard s count (Ok x) k h e f = λ i. record { answer = sym e i; station = (sym f i).station; count = (sym f i).count }
-came-heard s count (Err r) k h e f = λ i. record { answer = sym e i; station = (sym f i).station; count = (sym f i).count }
-
 -- one station in its new place
 module _ {n : ℕ} {l : Line} {signed end : List ℕ} {long : ℕ} (b : Beside n l signed end long) (i : ℕ) (h : Heard)
     (k : i < l.plan.stations) where
@@ -420,6 +402,12 @@ module _ (bytes : List ℕ) (start here : Standing) (o : Onward bytes start here
       ap (λ (x : Played). x.line.plan.stations) q
       ∙ ap (λ (x : Plan). x.stations) (step-plan here.line here.words e increments) ∙ sym b.stations
 
+  -- what is refused leaves all as it was
+  pub turn-refused : (e : Event) (increments : List ℕ) (k : ℕ) (w : List ℕ)
+      → record { answer = k; line = here.line } ≡ stepped here.line here.words e increments
+      → w ≡ stepped_words here.line here.words e increments → Turned n here e increments k here.line w signed end long
+  turn-refused e increments k w ep ew = record { played = ep; words = ew; beside = b }
+
   -- the event was heard by none
   pub turn-passes : (e : Event) (increments : List ℕ) (p : Played) (w : List ℕ) → p ≡ stepped here.line here.words e increments
       → w ≡ stepped_words here.line here.words e increments → (signed₁ : List ℕ)
@@ -448,6 +436,14 @@ module _ (bytes : List ℕ) (start here : Standing) (o : Onward bytes start here
 
     heard-twelve : length (set signed i h.station.signed) ≡ 12
     heard-twelve = length-set signed i h.station.signed ∙ b.twelve
+
+    -- refused
+    pub turn-unheard : h ≡ record { answer = h.answer; station = get_or here.line.stations i no_station; count = here.line.count }
+        → Turned n here e increments h.answer here.line w signed end long
+    turn-unheard same =
+        let low : i < here.line.plan.stations = omega (arith, k, b.stations) in
+        let still = seats-same here.line i _ h.answer low (table-station here.line i low) in
+        turn-refused e increments h.answer w (sym still ∙ sym (ap (seats here.line i) same) ∙ heard-step.0) heard-step.1
 
     -- and starts a round
     pub turn-starts : (long₁ : ℕ) (made : List ℕ) → long₁ ≡ behind (fits (seats here.line i h).line end 0) 0 (event_end (run_of (seats here.line i h).line []))

@@ -5,7 +5,6 @@ ghost use Rattle.clock.specs.Limits.{max_script};
 ghost use Rattle.run.specs.Part as part;
 ghost use Rattle.run.specs.Ready as laws;
 
-use super::Heard;
 use clock::MAX_SCRIPT;
 use line::Line;
 use refusal::Refusal;
@@ -77,34 +76,36 @@ fn play_on(
         let i = event::hearer(n, line.plan.faulty, read.event);
         next = read.next;
         number += 1;
-        let answer;
-        if i >= n {
+        let answer = if i >= n {
             // Copied: lent straight, they keep the whole answer out of registers, which is slower.
             let increments = read.increments;
-            let passed = super::pass(line, words, read.event, &increments[..n as usize]);
-            answer = refusal::answer(&passed);
-            let after = passed.unwrap_or(line);
-            notes::note_places(words, line.count, after.count, places);
-            line = after;
-            super::note_signed(line, signed);
-            long = text::line_end(line, end);
+            match super::pass(line, words, read.event, &increments[..n as usize]) {
+                Ok(after) => {
+                    notes::note_places(words, line.count, after.count, places);
+                    line = after;
+                    super::note_signed(line, signed);
+                    long = text::line_end(line, end);
+                    0
+                }
+                Err(refusal) => refusal.number(),
+            }
         } else {
             let was = line.stations[i as usize];
-            let heard = super::hear(
+            match super::hear(
                 line.plan, line.time, line.count, was, signed, words, places, read.event,
-            );
-            answer = refusal::answer(&heard);
-            let h = heard.unwrap_or(Heard {
-                station: was,
-                count: line.count,
-            });
-            line.stations[i as usize] = h.station;
-            line.count = h.count;
-            signed[i as usize] = h.station.signed;
-            if h.station.round != was.round {
-                long = text::line_end(line, end);
+            ) {
+                Ok(heard) => {
+                    line.stations[i as usize] = heard.station;
+                    line.count = heard.count;
+                    signed[i as usize] = heard.station.signed;
+                    if heard.station.round != was.round {
+                        long = text::line_end(line, end);
+                    }
+                    0
+                }
+                Err(refusal) => refusal.number(),
             }
-        }
+        };
         place = text::event_line(number, answer, &end[..long], out, place);
     }
     Part {

@@ -8,9 +8,9 @@ use Rattle.run.specs.Limits.{held-is, held-settled}
 use Rattle.refusal.proofs.Laws.{refused}
 use Rattle.script.specs.Read.{none_read}
 use Rattle.run.specs.Part.{standing}
-use Rattle.run.proofs.PartLaws.{came, came-heard, Turned, turned_as, goes_number, ready-onward, onward-read, onward-ends, part-from, turn-held, turn-few, turn-read, turn-hearer, turn-nobody, turn-plan, turn-passes, turn-starts, turn-stays, turn-shown}
+use Rattle.run.proofs.PartLaws.{Turned, turned_as, goes_number, ready-onward, onward-read, onward-ends, part-from, turn-held, turn-few, turn-read, turn-hearer, turn-nobody, turn-plan, turn-refused, turn-passes, turn-unheard, turn-starts, turn-stays, turn-shown}
 use Rattle.run.proofs.parts.play_on.Goals as goal
-use Rattle.run.proofs.parts.play_on.Goals.{Joined-i-n, then-i-n, else-i-n+then-h-was, else-i-n+else-h-was}
+use Rattle.run.proofs.parts.play_on.Goals.{Joined-i-n, then-i-n+in-Ok-pass, then-i-n+in-Err-pass, else-i-n+in-Ok-hear+then-heard-was, else-i-n+in-Ok-hear+else-heard-was, else-i-n+in-Err-hear}
 
 -- the turn, whichever way it went: the event is played, and the places noted are as many as before
 turned : (c : Joined-i-n)
@@ -18,17 +18,17 @@ turned : (c : Joined-i-n)
 turned c =
     let inv = c.loop-next.invariant in
     let q = c.hearer-i.ensures in
-    let l = c.loop-next.line in
     elim c.if-i-n.branch [
-      | then-i-n w ↦
-          let p = came l _ _ _ w.answer-answer.ensures w.unwrap_or-after.ensures in
-          turned_as (turn-passes _ _ _ inv.on inv.beside _ _ _ _ (sym p ∙ w.pass-passed.ensures.value) w.pass-passed.ensures.words_after _ w.note_signed.ensures _ _ w.line_end-long.ensures.value w.line_end-long.ensures.out_after) w.words-is w.signed-is w.end-is w.long-is w.line-is w.answer-is
-      | else-i-n+then-h-was w ↦
-          let h = came-heard _ _ _ _ _ w.answer-answer-else-i-n.ensures w.unwrap_or-h.ensures in
-          turned_as (turn-starts _ _ _ inv.on inv.beside _ _ _ q (omega (arith, w.if-i-n.false)) _ _ (rw h at w.hear-heard.ensures) _ _ w.line_end-long-then-h-was.ensures.value w.line_end-long-then-h-was.ensures.out_after) w.words-is w.signed-is w.end-is w.long-is w.line-is w.answer-is
-      | else-i-n+else-h-was w ↦
-          let h = came-heard _ _ _ _ _ w.answer-answer-else-i-n.ensures w.unwrap_or-h.ensures in
-          turned_as (turn-stays _ _ _ inv.on inv.beside _ _ _ q (omega (arith, w.if-i-n.false)) _ _ (rw h at w.hear-heard.ensures) w.if-h-was.false) w.words-is w.signed-is w.end-is w.long-is w.line-is w.answer-is
+      | then-i-n+in-Ok-pass w ↦
+          turned_as (turn-passes _ _ _ inv.on inv.beside _ _ _ _ w.in-Ok-pass.ensures.value w.in-Ok-pass.ensures.words_after _ w.note_signed.ensures _ _ w.line_end-long.ensures.value w.line_end-long.ensures.out_after) w.words-is w.signed-is w.end-is w.long-is w.line-is w.answer-is
+      | then-i-n+in-Err-pass w ↦
+          turned_as (turn-refused _ _ _ inv.on inv.beside _ _ _ _ w.in-Err-pass.ensures.value w.in-Err-pass.ensures.words_after) w.words-is w.signed-is w.end-is w.long-is w.line-is (w.answer-is ∙ w.number-in-Err-pass.ensures)
+      | else-i-n+in-Ok-hear+then-heard-was w ↦
+          turned_as (turn-starts _ _ _ inv.on inv.beside _ _ _ q (omega (arith, w.if-i-n.false)) _ _ w.in-Ok-hear.ensures _ _ w.line_end-long-then-heard-was.ensures.value w.line_end-long-then-heard-was.ensures.out_after) w.words-is w.signed-is w.end-is w.long-is w.line-is w.answer-is
+      | else-i-n+in-Ok-hear+else-heard-was w ↦
+          turned_as (turn-stays _ _ _ inv.on inv.beside _ _ _ q (omega (arith, w.if-i-n.false)) _ _ w.in-Ok-hear.ensures w.if-heard-was.false) w.words-is w.signed-is w.end-is w.long-is w.line-is w.answer-is
+      | else-i-n+in-Err-hear w ↦
+          turned_as (turn-unheard _ _ _ inv.on inv.beside _ _ _ q (omega (arith, w.if-i-n.false)) _ _ w.in-Err-hear.ensures refl) w.words-is w.signed-is w.end-is w.long-is w.line-is (w.answer-is ∙ w.number-in-Err-hear.ensures)
     ]
 
 pub loop-next-init : goal.loop-next-init
@@ -52,21 +52,20 @@ returns-in-Err c =
 pub overflow_add-number : goal.overflow_add-number
 overflow_add-number c = omega (arith, (goes_number _ _ _ _ _ (sym c.goes_on.ensures ∙ c.loop-next-test.true)).0)
 
-pub pass-passed-requires : goal.pass-passed-requires
-pass-passed-requires c =
+pub pass-requires : goal.pass-requires
+pass-requires c =
     let inv = c.loop-next.invariant in
     record { held = turn-held _ _ _ inv.on inv.beside; nobody = turn-nobody _ _ _ inv.on inv.beside _ _ c.hearer-i.ensures c.if-i-n.true }
 
 pub note_signed-requires : goal.note_signed-requires
 note_signed-requires c =
     let inv = c.loop-next.invariant in
-    let p = came c.loop-next.line _ _ _ c.answer-answer.ensures c.unwrap_or-after.ensures in
-    let many = turn-plan _ _ _ inv.on inv.beside _ _ _ (sym p ∙ c.pass-passed.ensures.value) in
+    let many = turn-plan _ _ _ inv.on inv.beside _ _ _ c.in-Ok-pass.ensures.value in
     let few = turn-few _ _ _ inv.on inv.beside in
     (omega (arith, many, few), omega (arith, many, few, inv.beside.twelve))
 
-pub hear-heard-requires : goal.hear-heard-requires
-hear-heard-requires c =
+pub hear-requires : goal.hear-requires
+hear-requires c =
     let inv = c.loop-next.invariant in
     record { stands = line-stands (turn-held _ _ _ inv.on inv.beside) _ _ (turn-hearer _ _ _ inv.on inv.beside _ _ c.hearer-i.ensures) (omega (arith, c.if-i-n.false, inv.beside.stations)); signed_len = inv.beside.twelve }
 
