@@ -67,6 +67,7 @@ impl Reading {
     }
 
     // The mark of a round: round times period. Past the limits it is where no clock comes.
+    #[tactic(auto, unfolding(crate::specs::Time::mark))]
     pub fn mark(round: u64, period: u64) -> Self
         ensures { result.0 ≡ mark round period }
     {
@@ -78,6 +79,7 @@ impl Reading {
 
     // The lead over another clock: its reading less the other's, below zero where it is behind. A reading over the
     // limit leads nothing.
+    #[tactic(auto, unfolding(crate::specs::Time::lead_of))]
     pub fn lead(self, other: Reading) -> i64
         ensures { result ≡ lead_of self.0 other.0 }
     {
@@ -102,6 +104,7 @@ pub fn outside(low: u64, high: u64, x: u64) -> bool
 
 // Whether an increment over a span keeps the drift rule: with S = M + drift, M times span is at most S times
 // increment, and M times increment at most S times span. Past the limits none does.
+#[tactic(auto, unfolding(crate::specs::Drift::in_drift, crate::specs::Drift::keeps))]
 pub fn in_drift(drift: u64, span: u64, increment: u64) -> bool
     ensures { result ≡ in_drift drift span increment }
 {

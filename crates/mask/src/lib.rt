@@ -5,6 +5,7 @@ ghost use Rattle.std.specs.Prelude.{◌≡◌};
 ghost use Rattle.mask.specs.Mask as set;
 
 // Whether station i is in the set.
+#[tactic(auto, unfolding(crate::specs::Mask::has))]
 pub fn has(mask: u64, i: u64) -> bool
     ensures { result ≡ set.has mask i }
 {
@@ -32,6 +33,7 @@ pub fn below(mask: u64, n: u64) -> bool
 }
 
 // The stations that are in one set or the other.
+#[tactic(auto, unfolding(crate::specs::Mask::join))]
 pub fn join(a: u64, b: u64) -> u64
     ensures { result ≡ set.join a b }
 {
@@ -39,6 +41,7 @@ pub fn join(a: u64, b: u64) -> u64
 }
 
 // The set of station i alone; the empty set for a station that no mask holds.
+#[tactic(auto, unfolding(crate::specs::Mask::only))]
 pub fn only(i: u64) -> u64
     ensures { result ≡ set.only i }
 {
@@ -49,6 +52,7 @@ pub fn only(i: u64) -> u64
 }
 
 // The stations below n.
+#[tactic(auto, unfolding(crate::specs::Mask::all))]
 pub fn all(n: u64) -> u64
     ensures { result ≡ set.all n }
 {

@@ -1,2 +1,0 @@
--- What the proofs of several rules cite.
-pub mod Products
