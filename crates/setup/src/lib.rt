@@ -24,6 +24,7 @@ pub struct Plan {
 }
 
 // 2: 2f + 1 > n, asked without a sum that could wrap.
+#[tactic(auto, unfolding(crate::specs::Setup::bad_faults))]
 fn bad_faults(plan: Plan) -> bool
     ensures { result ≡ rule.bad_faults plan }
 {
@@ -34,6 +35,7 @@ fn bad_faults(plan: Plan) -> bool
 }
 
 // 3: r, T, D, A or P outside its limits.
+#[tactic(auto, unfolding(crate::specs::Setup::bad_limits))]
 fn bad_limits(plan: Plan) -> bool
     ensures { result ≡ rule.bad_limits plan }
 {
@@ -45,6 +47,7 @@ fn bad_limits(plan: Plan) -> bool
 }
 
 // 4: a faulty mark at n or above, or more than f marks.
+#[tactic(auto, unfolding(crate::specs::Setup::bad_marks))]
 fn bad_marks(plan: Plan) -> bool
     ensures { result ≡ rule.bad_marks plan }
 {
@@ -60,6 +63,7 @@ struct Limited {
 
 impl Limited {
     // gap: P > A and (P - A)·M > T·S.
+    #[tactic(auto, unfolding(crate::specs::Setup::gap))]
     fn gap(self) -> bool
         ensures { result ≡ rule.gap self.plan }
     {
@@ -72,6 +76,7 @@ impl Limited {
     }
 
     // step: A·M·M >= (S·D + M·T)·S.
+    #[tactic(auto, unfolding(crate::specs::Setup::steps))]
     fn steps(self) -> bool
         ensures { result ≡ rule.steps self.plan }
     {
@@ -82,6 +87,7 @@ impl Limited {
     }
 
     // spread: D·S·M·M >= (P·S + T·M)·(S·S - M·M) + T·S·S·M.
+    #[tactic(auto, unfolding(crate::specs::Setup::spreads))]
     fn spreads(self) -> bool
         ensures { result ≡ rule.spreads self.plan }
     {
@@ -93,6 +99,7 @@ impl Limited {
     }
 
     // Whether station i's first reading x breaks its rule: zero for a faulty station, for a sound one from A to A + T.
+    #[tactic(auto, unfolding(crate::specs::Setup::bad_first))]
     fn bad_first(self, i: u64, x: u64) -> bool
         ensures { result ≡ rule.bad_first self.plan i x }
     {
@@ -145,6 +152,7 @@ pub fn plan_answer(plan: Plan) -> Result<(), Refusal>
 }
 
 // The answer to a setup: 1 to 8, or 0.
+#[tactic(auto, unfolding(crate::specs::Setup::setup_answer, crate::specs::Setup::first_answer))]
 pub fn answer(plan: Plan, first: &[u64]) -> Result<(), Refusal>
     ensures { given.answer result ≡ rule.setup_answer plan first.now }
 {
