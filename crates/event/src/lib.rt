@@ -1,7 +1,7 @@
 // The three events of a run, and rule 11: which events are barred whatever the run's state is.
 #![tactic(auto)]
 
-ghost use Rattle.std.specs.Prelude.{◌≡◌, length};
+ghost use Rattle.std.specs.Prelude.{◌≡◌, ◌<◌, length, unwrap_or, IfSome};
 ghost use Rattle.clock.specs.Tests.{some_to};
 ghost use Rattle.event.specs.Event as rule;
 
@@ -89,17 +89,18 @@ pub fn barred(stations: u64, faulty: u64, event: Event, increments: &[u64]) -> b
 }
 
 // The station that hears an event: the recipient of a message that 11 does not bar. There is none for an advance or a barred
-// message: n.
-pub fn hearer(stations: u64, faulty: u64, event: Event) -> u64
-    ensures { result ≡ rule.hearer stations faulty event }
+// message.
+pub fn hearer(stations: u64, faulty: u64, event: Event) -> Option<u64>
+    ensures heard { unwrap_or result stations ≡ rule.hearer stations faulty event }
+    ensures within { IfSome result (λ i. i < stations) }
 {
     match event {
-        Event::Advance(_) => stations,
+        Event::Advance(_) => None,
         Event::Deliver { recipient, .. } | Event::Send { recipient, .. } => {
             if barred(stations, faulty, event, &[]) {
-                stations
+                None
             } else {
-                recipient
+                Some(recipient)
             }
         }
     }

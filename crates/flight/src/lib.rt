@@ -2,7 +2,7 @@
 // number, then the signers, then the time sent. A flight of `count` messages is the first `count` of the words' messages.
 #![tactic(auto)]
 
-ghost use Rattle.std.specs.Prelude.{◌≡◌, true, ◌++◌, ◌+◌, ◌*◌, ◌%◌, ◌≤◌, ◌<◌, length, get_or};
+ghost use Rattle.std.specs.Prelude.{◌≡◌, true, ◌++◌, ◌+◌, ◌*◌, ◌%◌, ◌≤◌, ◌<◌, length, get_or, unwrap_or, IfSome};
 ghost use Rattle.clock.specs.Limits.{max_stations};
 ghost use Rattle.clock.specs.Pick.{pick};
 ghost use Rattle.mask.specs.Mask.{has};
@@ -111,49 +111,52 @@ pub fn message_at(words: &[u64], i: u64) -> Message
 
 // ---- finding a message
 
-// The first of `count` messages whose first word is `key`, or `count` where none is.
-fn seek(words: &[u64], count: u64, key: u64) -> u64
+// The first of `count` messages whose first word is `key`.
+fn seek(words: &[u64], count: u64, key: u64) -> Option<u64>
     requires { 3 * count ≤ length words.now }
-    ensures { result ≡ flight.index_of (flight.unpacked key) (flight.decode count words.now) }
+    ensures found { unwrap_or result count ≡ flight.index_of (flight.unpacked key) (flight.decode count words.now) }
+    ensures within { IfSome result (λ i. i < count) }
 {
     // `find` over the places is slower.
     for i in 0..count {
         if words[(3 * i) as usize] == key {
-            return i;
+            return Some(i);
         }
     }
-    count
+    None
 }
 
 // The place `near` where the message there has the first word `key`, else what `seek` finds.
-fn seek_near(words: &[u64], count: u64, key: u64, near: u64) -> u64
+fn seek_near(words: &[u64], count: u64, key: u64, near: u64) -> Option<u64>
     requires { 3 * count ≤ length words.now }
-    ensures { result ≡ flight.near_or near (flight.unpacked key) (flight.decode count words.now) }
+    ensures found { unwrap_or result count ≡ flight.near_or near (flight.unpacked key) (flight.decode count words.now) }
+    ensures within { IfSome result (λ i. i < count) }
 {
     if near >= count {
         return seek(words, count, key);
     }
     if words[(3 * near) as usize] == key {
-        return near;
+        return Some(near);
     }
     seek(words, count, key)
 }
 
-// The place of the message with these names, or `count` where none has them or the words do not hold so many. The place
+// The place of the message with these names; none where no message has them or the words do not hold so many. The place
 // noted for its sender, recipient and kind is looked at first: places that are not right cost time, and they change no
 // answer where no two messages agree in all four names.
-pub fn find(words: &[u64], count: u64, names: Names, places: &[u64]) -> u64
-    ensures { result ≡ pick (flight.holds count words.now)
+pub fn find(words: &[u64], count: u64, names: Names, places: &[u64]) -> Option<u64>
+    ensures found { unwrap_or result count ≡ pick (flight.holds count words.now)
         (flight.near_or (get_or places.now (flight.packed names % 512) 0) names (flight.decode count words.now)) count }
+    ensures within { IfSome result (λ i. i < count) }
 {
     if count > (words.len() / 3) as u64 {
-        return count;
+        return None;
     }
     if names.recipient >= 16 {
-        return count;
+        return None;
     }
     if !packs(names.sender, names.round, names.kind) {
-        return count;
+        return None;
     }
     let key = pack(names);
     seek_near(words, count, key, word(places, (key % 512) as usize))

@@ -93,7 +93,7 @@ fn again(words: &[u64], i: u64, key: u64, mark: u8) -> bool
         return false;
     }
     let m = flight::unpack(key, 0, 0);
-    flight::find(words, i, Names::from(m), &[]) < i
+    flight::find(words, i, Names::from(m), &[]).is_some()
 }
 
 // Whether two messages in flight agree in all four names. No where the words do not hold so many messages.

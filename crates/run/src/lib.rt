@@ -161,10 +161,9 @@ fn deliver(
     requires { hear.Stands plan time count names.recipient s words.old }
     ensures { hear.Does plan time count names.recipient s words.old (play.deliver_of names) (hear.as_heard s count result) words.new }
 {
-    let at = flight::find(words, count, names, places);
-    if at == count {
+    let Some(at) = flight::find(words, count, names, places) else {
         return Err(Refusal::NoMessage);
-    }
+    };
     let m = flight::message_at(words, at);
     let o = station::heard(plan, names.round, m.signers, s);
     if MAX_FLIGHT < count - 1 + count_sent(plan, names.recipient, o) {
@@ -471,10 +470,9 @@ fn step(l: Line, words: &mut [u64], event: Event, increments: &[u64]) -> Result<
     ensures value { play.as_played l result ≡ play.stepped l words.old event increments.now }
     ensures words_after { words.new ≡ play.stepped_words l words.old event increments.now }
 {
-    let i = event::hearer(l.plan.stations, l.plan.faulty, event);
-    if i >= l.plan.stations {
+    let Some(i) = event::hearer(l.plan.stations, l.plan.faulty, event) else {
         return pass(l, words, event, increments);
-    }
+    };
     let mut signed = [0u64; 12];
     note_signed(l, &mut signed);
     let mut places = [0u64; 1];

@@ -73,37 +73,39 @@ fn play_on(
                 };
             }
         };
-        let i = event::hearer(n, line.plan.faulty, read.event);
         next = read.next;
         number += 1;
-        let answer = if i >= n {
-            // Copied: lent straight, they keep the whole answer out of registers, which is slower.
-            let increments = read.increments;
-            match super::pass(line, words, read.event, &increments[..n as usize]) {
-                Ok(after) => {
-                    notes::note_places(words, line.count, after.count, places);
-                    line = after;
-                    super::note_signed(line, signed);
-                    long = text::line_end(line, end);
-                    0
-                }
-                Err(refusal) => refusal.number(),
-            }
-        } else {
-            let was = line.stations[i as usize];
-            match super::hear(
-                line.plan, line.time, line.count, was, signed, words, places, read.event,
-            ) {
-                Ok(heard) => {
-                    line.stations[i as usize] = heard.station;
-                    line.count = heard.count;
-                    signed[i as usize] = heard.station.signed;
-                    if heard.station.round != was.round {
+        let answer = match event::hearer(n, line.plan.faulty, read.event) {
+            None => {
+                // Copied: lent straight, they keep the whole answer out of registers, which is slower.
+                let increments = read.increments;
+                match super::pass(line, words, read.event, &increments[..n as usize]) {
+                    Ok(after) => {
+                        notes::note_places(words, line.count, after.count, places);
+                        line = after;
+                        super::note_signed(line, signed);
                         long = text::line_end(line, end);
+                        0
                     }
-                    0
+                    Err(refusal) => refusal.number(),
                 }
-                Err(refusal) => refusal.number(),
+            }
+            Some(i) => {
+                let was = line.stations[i as usize];
+                match super::hear(
+                    line.plan, line.time, line.count, was, signed, words, places, read.event,
+                ) {
+                    Ok(heard) => {
+                        line.stations[i as usize] = heard.station;
+                        line.count = heard.count;
+                        signed[i as usize] = heard.station.signed;
+                        if heard.station.round != was.round {
+                            long = text::line_end(line, end);
+                        }
+                        0
+                    }
+                    Err(refusal) => refusal.number(),
+                }
             }
         };
         place = text::event_line(number, answer, &end[..long], out, place);

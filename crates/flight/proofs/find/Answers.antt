@@ -11,23 +11,21 @@ use Rattle.flight.proofs.find.Goals as goal
 pub returns-then-count-words : goal.returns-then-count-words
 returns-then-count-words c =
     let e = holds-false c.args.count c.args.words.now c.if-count-words.true in
-    rw e refl
+    record { found = rw e refl; within = tt }
 
 pub returns-then-names-ge16 : goal.returns-then-names-ge16
 returns-then-names-ge16 c =
     let a = c.args in
     let e = holds-true a.count a.words.now c.if-count-words.false in
     let p = false-recipient a.names c.if-names-ge16.true in
-    rw e (sym (near-unpackable _ a.names a.count a.words.now
-    (λ i. (c.type_inv.words i).fits) p))
+    record { found = rw e (sym (near-unpackable _ a.names a.count a.words.now (λ i. (c.type_inv.words i).fits) p)); within = tt }
 
 pub returns-then-not-packs : goal.returns-then-not-packs
 returns-then-not-packs c =
     let a = c.args in
     let e = holds-true a.count a.words.now c.if-count-words.false in
     let p = false-packs a.names (sym c.packs.ensures ∙ c.if-not-packs.true) in
-    rw e (sym (near-unpackable _ a.names a.count a.words.now
-    (λ i. (c.type_inv.words i).fits) p))
+    record { found = rw e (sym (near-unpackable _ a.names a.count a.words.now (λ i. (c.type_inv.words i).fits) p)); within = tt }
 
 pub pack-key-requires : goal.pack-key-requires
 pack-key-requires c = (
@@ -47,4 +45,7 @@ returns c =
     let x : unpacked key ≡ a.names = ap unpacked k ∙ unpacked-packed a.names p in
     let w : c.word.result ≡ get_or a.places.now (packed a.names % 512) 0 =
     c.word.ensures ∙ ap (λ (n : ℕ). get_or a.places.now (n % 512) 0) k in
-    rw e (c.seek_near.ensures ∙ ap₂ (λ (near : ℕ) (x : Names). near_or near x (decode a.count l)) w x)
+    record {
+      found = rw e (c.seek_near.ensures.found ∙ ap₂ (λ (near : ℕ) (x : Names). near_or near x (decode a.count l)) w x);
+      within = c.seek_near.ensures.within;
+    }

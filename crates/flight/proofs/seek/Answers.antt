@@ -8,9 +8,9 @@ pub returns-then-words-i : goal.returns-then-words-i
 returns-then-words-i c =
     let a = c.args in
     let b = c.loop-i in
-    sym (seek-at a.key a.count a.words.now b.i (omega arith) b.invariant c.if-words-i.true)
+    record { found = sym (seek-at a.key a.count a.words.now b.i (omega arith) b.invariant c.if-words-i.true); within = omega arith }
 
 pub returns : goal.returns
 returns c =
     let a = c.args in
-    sym (seek-none a.key a.count a.words.now (λ j h. c.loop-i.invariant j (omega arith)))
+    record { found = sym (seek-none a.key a.count a.words.now (λ j h. c.loop-i.invariant j (omega arith))); within = tt }

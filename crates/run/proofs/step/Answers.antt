@@ -9,22 +9,22 @@ use borrow.Author.Rules.{rules}
 use Rattle.run.proofs.step.Goals as goal
 
 pub pass-requires : goal.pass-requires
-pass-requires c = record { held = c.requires; nobody = omega (arith, c.hearer-i.ensures, c.if-i-l.true) }
+pass-requires c = record { held = c.requires; nobody = omega (arith, c.in_default.ensures.heard) }
 
 pub note_signed-requires : goal.note_signed-requires
 note_signed-requires c = let few = (held-settled c.requires).few in (omega (arith, few), omega (arith, few))
 
 pub offset_bounds-l-i : goal.offset_bounds-l-i
-offset_bounds-l-i c = omega (arith, (held-settled c.requires).few, c.if-i-l.false)
+offset_bounds-l-i c = omega (arith, (held-settled c.requires).few, c.in-Some.ensures.within)
 
 pub bounds-l-i : goal.bounds-l-i
-bounds-l-i c = omega (arith, (held-settled c.requires).few, c.if-i-l.false)
+bounds-l-i c = omega (arith, (held-settled c.requires).few, c.in-Some.ensures.within)
 
 pub hear-requires : goal.hear-requires
-hear-requires c = record { stands = line-stands c.requires _ _ c.hearer-i.ensures c.if-i-l.false; signed_len = search rules }
+hear-requires c = record { stands = line-stands c.requires _ _ c.in-Some.ensures.heard c.in-Some.ensures.within; signed_len = search rules }
 
 pub seat-requires : goal.seat-requires
-seat-requires c = omega (arith, (held-settled c.requires).few, c.if-i-l.false)
+seat-requires c = omega (arith, (held-settled c.requires).few, c.in-Some.ensures.within)
 
 -- what is heard where it is refused, and where it is not
 pub returns-in_err-h : goal.returns-in_err-h
@@ -33,14 +33,14 @@ returns-in_err-h c =
     let p = err_from_is_err_and c.from_residual.result c.from_residual.ensures.1 in
     let few = (held-settled c.requires).few in
     let noted = noted-all a.l _ (omega (arith, few)) c.note_signed.ensures in
-    let k = c.if-i-l.false in
-    let heard = line-heard c.requires _ _ c.hearer-i.ensures k _ _ noted _ _ c.in_err-h.ensures in
-    rw (p.1, p.2) (record { value = sym (seats-same a.l c.hearer-i.result _ _ (omega (arith, k)) (table-station a.l _ (omega (arith, k)))) ∙ heard.0; words_after = heard.1 })
+    let k = c.in-Some.ensures.within in
+    let heard = line-heard c.requires _ _ c.in-Some.ensures.heard k _ _ noted _ _ c.in_err-h.ensures in
+    rw (p.1, p.2) (record { value = sym (seats-same a.l c.in-Some.i _ _ (omega (arith, k)) (table-station a.l _ (omega (arith, k)))) ∙ heard.0; words_after = heard.1 })
 
 pub returns : goal.returns
 returns c =
     let a = c.args in
     let few = (held-settled c.requires).few in
     let noted = noted-all a.l _ (omega (arith, few)) c.note_signed.ensures in
-    let heard = line-heard c.requires _ _ c.hearer-i.ensures c.if-i-l.false _ _ noted _ _ c.in_ok-h.ensures in
+    let heard = line-heard c.requires _ _ c.in-Some.ensures.heard c.in-Some.ensures.within _ _ noted _ _ c.in_ok-h.ensures in
     record { value = ap (λ (x : Line). record { answer = 0; line = x }) c.seat.ensures ∙ heard.0; words_after = heard.1 }

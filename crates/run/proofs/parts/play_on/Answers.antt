@@ -10,25 +10,24 @@ use Rattle.script.specs.Read.{none_read}
 use Rattle.run.specs.Part.{standing}
 use Rattle.run.proofs.PartLaws.{Turned, turned_as, goes_number, ready-onward, onward-read, onward-ends, part-from, turn-held, turn-few, turn-read, turn-hearer, turn-nobody, turn-plan, turn-refused, turn-passes, turn-unheard, turn-starts, turn-stays, turn-shown}
 use Rattle.run.proofs.parts.play_on.Goals as goal
-use Rattle.run.proofs.parts.play_on.Goals.{Joined-i-n, then-i-n+in-Ok-pass, then-i-n+in-Err-pass, else-i-n+in-Ok-hear+then-heard-was, else-i-n+in-Ok-hear+else-heard-was, else-i-n+in-Err-hear}
+use Rattle.run.proofs.parts.play_on.Goals.{Joined-hearer, in-None+in-Ok-pass, in-None+in-Err-pass, in-Some+in-Ok-hear+then-heard-was, in-Some+in-Ok-hear+else-heard-was, in-Some+in-Err-hear}
 
 -- the turn, whichever way it went: the event is played, and the places noted are as many as before
-turned : (c : Joined-i-n)
-    → Turned c.args.line.plan.stations (standing 0 c.loop-next.line c.loop-next.words c.loop-next.next c.loop-next.number c.loop-next.out c.loop-next.place) c.in-Ok.read.event (take c.args.line.plan.stations c.in-Ok.read.increments) c.if-i-n.answer c.if-i-n.line c.if-i-n.words c.if-i-n.signed c.if-i-n.end c.if-i-n.long
+turned : (c : Joined-hearer)
+    → Turned c.args.line.plan.stations (standing 0 c.loop-next.line c.loop-next.words c.loop-next.next c.loop-next.number c.loop-next.out c.loop-next.place) c.in-Ok.read.event (take c.args.line.plan.stations c.in-Ok.read.increments) c.match-hearer.answer c.match-hearer.line c.match-hearer.words c.match-hearer.signed c.match-hearer.end c.match-hearer.long
 turned c =
     let inv = c.loop-next.invariant in
-    let q = c.hearer-i.ensures in
-    elim c.if-i-n.branch [
-      | then-i-n+in-Ok-pass w ↦
+    elim c.match-hearer.branch [
+      | in-None+in-Ok-pass w ↦
           turned_as (turn-passes _ _ _ inv.on inv.beside _ _ _ _ w.in-Ok-pass.ensures.value w.in-Ok-pass.ensures.words_after _ w.note_signed.ensures _ _ w.line_end-long.ensures.value w.line_end-long.ensures.out_after) w.words-is w.signed-is w.end-is w.long-is w.line-is w.answer-is
-      | then-i-n+in-Err-pass w ↦
+      | in-None+in-Err-pass w ↦
           turned_as (turn-refused _ _ _ inv.on inv.beside _ _ _ _ w.in-Err-pass.ensures.value w.in-Err-pass.ensures.words_after) w.words-is w.signed-is w.end-is w.long-is w.line-is (w.answer-is ∙ w.number-in-Err-pass.ensures)
-      | else-i-n+in-Ok-hear+then-heard-was w ↦
-          turned_as (turn-starts _ _ _ inv.on inv.beside _ _ _ q (omega (arith, w.if-i-n.false)) _ _ w.in-Ok-hear.ensures _ _ w.line_end-long-then-heard-was.ensures.value w.line_end-long-then-heard-was.ensures.out_after) w.words-is w.signed-is w.end-is w.long-is w.line-is w.answer-is
-      | else-i-n+in-Ok-hear+else-heard-was w ↦
-          turned_as (turn-stays _ _ _ inv.on inv.beside _ _ _ q (omega (arith, w.if-i-n.false)) _ _ w.in-Ok-hear.ensures w.if-heard-was.false) w.words-is w.signed-is w.end-is w.long-is w.line-is w.answer-is
-      | else-i-n+in-Err-hear w ↦
-          turned_as (turn-unheard _ _ _ inv.on inv.beside _ _ _ q (omega (arith, w.if-i-n.false)) _ _ w.in-Err-hear.ensures refl) w.words-is w.signed-is w.end-is w.long-is w.line-is (w.answer-is ∙ w.number-in-Err-hear.ensures)
+      | in-Some+in-Ok-hear+then-heard-was w ↦
+          turned_as (turn-starts _ _ _ inv.on inv.beside _ _ _ w.in-Some.ensures.heard w.in-Some.ensures.within _ _ w.in-Ok-hear.ensures _ _ w.line_end-long-then-heard-was.ensures.value w.line_end-long-then-heard-was.ensures.out_after) w.words-is w.signed-is w.end-is w.long-is w.line-is w.answer-is
+      | in-Some+in-Ok-hear+else-heard-was w ↦
+          turned_as (turn-stays _ _ _ inv.on inv.beside _ _ _ w.in-Some.ensures.heard w.in-Some.ensures.within _ _ w.in-Ok-hear.ensures w.if-heard-was.false) w.words-is w.signed-is w.end-is w.long-is w.line-is w.answer-is
+      | in-Some+in-Err-hear w ↦
+          turned_as (turn-unheard _ _ _ inv.on inv.beside _ _ _ w.in-Some.ensures.heard w.in-Some.ensures.within _ _ w.in-Err-hear.ensures refl) w.words-is w.signed-is w.end-is w.long-is w.line-is (w.answer-is ∙ w.number-in-Err-hear.ensures)
     ]
 
 pub loop-next-init : goal.loop-next-init
@@ -55,7 +54,7 @@ overflow_add-number c = omega (arith, (goes_number _ _ _ _ _ (sym c.goes_on.ensu
 pub pass-requires : goal.pass-requires
 pass-requires c =
     let inv = c.loop-next.invariant in
-    record { held = turn-held _ _ _ inv.on inv.beside; nobody = turn-nobody _ _ _ inv.on inv.beside _ _ c.hearer-i.ensures c.if-i-n.true }
+    record { held = turn-held _ _ _ inv.on inv.beside; nobody = turn-nobody _ _ _ inv.on inv.beside _ _ c.in-None.ensures.heard (omega arith) }
 
 pub note_signed-requires : goal.note_signed-requires
 note_signed-requires c =
@@ -67,7 +66,7 @@ note_signed-requires c =
 pub hear-requires : goal.hear-requires
 hear-requires c =
     let inv = c.loop-next.invariant in
-    record { stands = line-stands (turn-held _ _ _ inv.on inv.beside) _ _ (turn-hearer _ _ _ inv.on inv.beside _ _ c.hearer-i.ensures) (omega (arith, c.if-i-n.false, inv.beside.stations)); signed_len = inv.beside.twelve }
+    record { stands = line-stands (turn-held _ _ _ inv.on inv.beside) _ _ (turn-hearer _ _ _ inv.on inv.beside _ _ c.in-Some.ensures.heard) (omega (arith, c.in-Some.ensures.within, inv.beside.stations)); signed_len = inv.beside.twelve }
 
 pub slice_bounds-event_line-end : goal.slice_bounds-event_line-end
 slice_bounds-event_line-end c = let b = (turned c).beside in omega (arith, b.fits, b.room)
@@ -82,12 +81,12 @@ pub loop-next-preserved : goal.loop-next-preserved
 loop-next-preserved c =
     let inv = c.loop-next.invariant in
     let g = sym c.goes_on.ensures ∙ c.loop-next-test.true in
-    let t = turned (goal.at.loop-next-preserved c).Joined-i-n in
+    let t = turned (goal.at.loop-next-preserved c).Joined-hearer in
     record {
       on = turn-shown _ _ _ inv.on inv.beside g _ c.in-Ok.ensures refl t _ _ c.event_line-place.ensures.value c.event_line-place.ensures.out_after;
       beside = t.beside;
       few = inv.few;
-      places = c.if-i-n.auto.places ∙ inv.places;
+      places = c.match-hearer.auto.places ∙ inv.places;
     }
 
 pub shape_of-words : goal.shape_of-words
