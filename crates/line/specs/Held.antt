@@ -5,8 +5,13 @@ use Rattle.clock.specs.Pick.{pick}
 use Rattle.station.specs.declared.Station.{Station}
 use Rattle.flight.specs.Message.{decode}
 use Rattle.line.specs.declared.Line.{Line}
+use Rattle.line.specs.declared.Rest.{Rest}
 use Rattle.model.specs.Run.{Run, no_station}
 use Rattle.model.specs.Record.{bad_record}
+
+-- what the run has beside its stations
+abbrev pub rest_of : Line → Rest
+rest_of l = record { plan = l.plan; time = l.time; count = l.count }
 
 -- the stations in the first n places of a table
 unfoldable pub first_of : ℕ → List Station → List Station

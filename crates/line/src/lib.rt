@@ -28,6 +28,27 @@ pub struct Line {
     pub count: u64,
 }
 
+// What a run has beside its stations: its plan, its time, and how many messages are in flight.
+#[derive(Clone, Copy)]
+pub struct Rest {
+    pub plan: Plan,
+    pub time: Moment,
+    pub count: u64,
+}
+
+impl Line {
+    // What the run has beside its stations.
+    pub fn rest(self) -> Rest
+        ensures { result ≡ held.rest_of self }
+    {
+        Rest {
+            plan: self.plan,
+            time: self.time,
+            count: self.count,
+        }
+    }
+}
+
 // ---- a fresh run
 
 // A station with nothing in it.

@@ -25,7 +25,7 @@ mod parts;
 use clock::{MAX_FLIGHT, MAX_TIME, Moment};
 use event::Event;
 use flight::{Message, Names};
-use line::Line;
+use line::{Line, Rest};
 pub use parts::{Part, play_part};
 use refusal::Refusal;
 use setup::Plan;
@@ -68,31 +68,24 @@ fn count_sent(plan: Plan, i: u64, o: Outcome) -> u64
 
 // What station i sends to the others when it has done this of a round: its ready first, then its relay. The answer is the
 // number of messages then.
-fn tell(
-    words: &mut [u64],
-    count: u64,
-    plan: Plan,
-    time: Moment,
-    i: u64,
-    round: u64,
-    o: Outcome,
-) -> u64
-    requires { Room words.old count plan time.0 i round o }
-    ensures value { result ≡ count + sent.sent_by plan i o }
+fn tell(rest: Rest, words: &mut [u64], i: u64, round: u64, o: Outcome) -> u64
+    requires { Room words.old rest.count rest.plan rest.time.0 i round o }
+    ensures value { result ≡ rest.count + sent.sent_by rest.plan i o }
     ensures words_after { words.new ≡ coded words.old
-        (decode count words.old ++ run.sends plan time.0 i round o) }
+        (decode rest.count words.old ++ run.sends rest.plan rest.time.0 i round o) }
 {
+    let count = rest.count;
     if quiet(o) {
         return count;
     }
-    let to = others(plan, i);
+    let to = others(rest.plan, i);
     let ready = Message {
         sender: i,
         recipient: 0,
         round,
         kind: 0,
         signers: mask::only(i),
-        sent: time,
+        sent: rest.time,
     };
     let relay = Message {
         sender: i,
@@ -100,7 +93,7 @@ fn tell(
         round,
         kind: 1,
         signers: o.relay,
-        sent: time,
+        sent: rest.time,
     };
     let behind = flight::send(words, count, ready, part(o.ready, to)).unwrap_or(count);
     flight::send(words, behind, relay, part(o.relay != 0, to)).unwrap_or(behind)
@@ -129,66 +122,57 @@ fn take_out(words: &mut [u64], count: u64, at: u64, places: &mut [u64]) -> u64
 
 // What station i sends to the others, and where it lies is noted.
 fn tell_noted(
+    rest: Rest,
     words: &mut [u64],
-    count: u64,
-    plan: Plan,
-    time: Moment,
     i: u64,
     round: u64,
     o: Outcome,
     places: &mut [u64],
 ) -> u64
-    requires { Room words.old count plan time.0 i round o }
-    ensures value { result ≡ count + sent.sent_by plan i o }
+    requires { Room words.old rest.count rest.plan rest.time.0 i round o }
+    ensures value { result ≡ rest.count + sent.sent_by rest.plan i o }
     ensures words_after { words.new ≡ coded words.old
-        (decode count words.old ++ run.sends plan time.0 i round o) }
+        (decode rest.count words.old ++ run.sends rest.plan rest.time.0 i round o) }
 {
-    let after = tell(words, count, plan, time, i, round, o);
-    notes::note_places(words, count, after, places);
+    let after = tell(rest, words, i, round, o);
+    notes::note_places(words, rest.count, after, places);
     after
 }
 
 // Deliver: the message leaves the flight and its recipient gathers it.
 fn deliver(
-    plan: Plan,
-    time: Moment,
-    count: u64,
+    rest: Rest,
     s: Station,
     words: &mut [u64],
     places: &mut [u64],
     names: Names,
 ) -> Result<Heard, Refusal>
-    requires { hear.Stands plan time count names.recipient s words.old }
-    ensures { hear.Does plan time count names.recipient s words.old (play.deliver_of names) (hear.as_heard s count result) words.new }
+    requires { hear.Stands rest.plan rest.time rest.count names.recipient s words.old }
+    ensures { hear.Does rest.plan rest.time rest.count names.recipient s words.old (play.deliver_of names) (hear.as_heard s rest.count result) words.new }
 {
-    let Some(at) = flight::find(words, count, names, places) else {
+    let Some(at) = flight::find(words, rest.count, names, places) else {
         return Err(Refusal::NoMessage);
     };
     let m = flight::message_at(words, at);
-    let o = station::heard(plan, names.round, m.signers, s);
-    if MAX_FLIGHT < count - 1 + count_sent(plan, names.recipient, o) {
+    let o = station::heard(rest.plan, names.round, m.signers, s);
+    if MAX_FLIGHT < rest.count - 1 + count_sent(rest.plan, names.recipient, o) {
         return Err(Refusal::Full);
     }
-    let left = take_out(words, count, at, places);
+    let left = take_out(words, rest.count, at, places);
     if quiet(o) {
         return Ok(Heard {
             station: o.station,
             count: left,
         });
     }
-    let after = tell_noted(
-        words,
-        left,
-        plan,
-        time,
-        names.recipient,
-        s.round + 1,
-        o,
-        places,
-    );
+    let rest = Rest {
+        count: left,
+        ..rest
+    };
+    let count = tell_noted(rest, words, names.recipient, s.round + 1, o, places);
     Ok(Heard {
         station: o.station,
-        count: after,
+        count,
     })
 }
 
@@ -220,9 +204,7 @@ fn unsigned(plan: Plan, signed: &[u64], s: Station, round: u64, signers: u64) ->
 
 // Faulty send: a round and a mask of signers, gathered at once.
 fn send(
-    plan: Plan,
-    time: Moment,
-    count: u64,
+    rest: Rest,
     s: Station,
     signed: &[u64],
     words: &mut [u64],
@@ -232,49 +214,47 @@ fn send(
     round: u64,
     signers: u64,
 ) -> Result<Heard, Refusal>
-    requires stands { hear.Stands plan time count recipient s words.old }
+    requires stands { hear.Stands rest.plan rest.time rest.count recipient s words.old }
     requires signed_len { length signed.now ≡ 12 }
-    ensures { hear.DoesBy signed.now plan time count recipient s words.old (Send sender recipient round signers)
-        (hear.as_heard s count result) words.new }
+    ensures { hear.DoesBy signed.now rest.plan rest.time rest.count recipient s words.old (Send sender recipient round signers)
+        (hear.as_heard s rest.count result) words.new }
 {
-    if !mask::has(plan.faulty, sender) {
+    if !mask::has(rest.plan.faulty, sender) {
         return Err(Refusal::SoundSender);
     }
-    if unsigned(plan, signed, s, round, signers) {
+    if unsigned(rest.plan, signed, s, round, signers) {
         return Err(Refusal::Unsigned);
     }
-    let o = station::heard(plan, round, signers, s);
-    if MAX_FLIGHT < count + count_sent(plan, recipient, o) {
+    let o = station::heard(rest.plan, round, signers, s);
+    if MAX_FLIGHT < rest.count + count_sent(rest.plan, recipient, o) {
         return Err(Refusal::Full);
     }
     if quiet(o) {
         return Ok(Heard {
             station: o.station,
-            count,
+            count: rest.count,
         });
     }
-    let after = tell_noted(words, count, plan, time, recipient, s.round + 1, o, places);
+    let count = tell_noted(rest, words, recipient, s.round + 1, o, places);
     Ok(Heard {
         station: o.station,
-        count: after,
+        count,
     })
 }
 
 // What an event comes to at the station that hears it.
 fn hear(
-    plan: Plan,
-    time: Moment,
-    count: u64,
+    rest: Rest,
     s: Station,
     signed: &[u64],
     words: &mut [u64],
     places: &mut [u64],
     event: Event,
 ) -> Result<Heard, Refusal>
-    requires stands { hear.Stands plan time count (hear.recipient_or plan.stations event) s words.old }
+    requires stands { hear.Stands rest.plan rest.time rest.count (hear.recipient_or rest.plan.stations event) s words.old }
     requires signed_len { length signed.now ≡ 12 }
-    ensures { hear.DoesBy signed.now plan time count (hear.recipient_or plan.stations event) s words.old event
-        (hear.as_heard s count result) words.new }
+    ensures { hear.DoesBy signed.now rest.plan rest.time rest.count (hear.recipient_or rest.plan.stations event) s words.old event
+        (hear.as_heard s rest.count result) words.new }
 {
     match event {
         Event::Advance(_) => Err(Refusal::Barred),
@@ -283,27 +263,22 @@ fn hear(
             recipient,
             round,
             kind,
-        } => deliver(
-            plan,
-            time,
-            count,
-            s,
-            words,
-            places,
-            Names {
+        } => {
+            let names = Names {
                 sender,
                 recipient,
                 round,
                 kind,
-            },
-        ),
+            };
+            deliver(rest, s, words, places, names)
+        }
         Event::Send {
             sender,
             recipient,
             round,
             signers,
         } => send(
-            plan, time, count, s, signed, words, places, sender, recipient, round, signers,
+            rest, s, signed, words, places, sender, recipient, round, signers,
         ),
     }
 }
@@ -407,7 +382,12 @@ fn tell_all(l: Line, words: &mut [u64], d: u64, increments: &[u64]) -> u64
     for i in 0..l.plan.stations {
         let s = l.stations[i as usize];
         let o = station::advanced(l.plan, i, increments[i as usize], s);
-        count = tell(words, count, l.plan, time, i, s.round + 1, o);
+        let rest = Rest {
+            plan: l.plan,
+            time,
+            count,
+        };
+        count = tell(rest, words, i, s.round + 1, o);
     }
     count
 }
@@ -477,9 +457,7 @@ fn step(l: Line, words: &mut [u64], event: Event, increments: &[u64]) -> Result<
     note_signed(l, &mut signed);
     let mut places = [0u64; 1];
     let h = hear(
-        l.plan,
-        l.time,
-        l.count,
+        l.rest(),
         l.stations[i as usize],
         &signed,
         words,

@@ -92,9 +92,7 @@ fn play_on(
             }
             Some(i) => {
                 let was = line.stations[i as usize];
-                match super::hear(
-                    line.plan, line.time, line.count, was, signed, words, places, read.event,
-                ) {
+                match super::hear(line.rest(), was, signed, words, places, read.event) {
                     Ok(heard) => {
                         line.stations[i as usize] = heard.station;
                         line.count = heard.count;

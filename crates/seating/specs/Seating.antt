@@ -15,10 +15,11 @@ use Rattle.station.specs.declared.Outcome.{Outcome}
 use Rattle.station.specs.Station.{still, hear, advance}
 use Rattle.station.specs.Record.{Board, answered, hear_answer, advance_answer}
 use Rattle.line.specs.declared.Line.{Line}
+use Rattle.line.specs.Held.{rest_of}
 use Rattle.line.specs.Run.{no_station}
 use Rattle.line.specs.Fresh.{no_stations}
 use Rattle.run.specs.Play.{Played, placed_to}
-use Rattle.seating.specs.declared.Rest.{Rest}
+use Rattle.line.specs.declared.Rest.{Rest}
 use Rattle.seating.specs.declared.Act.{Act}
 use Rattle.seating.specs.declared.Act.TheVariants.{Hear, Advance}
 
@@ -100,10 +101,6 @@ pub record Answered : Type 0 where
 abbrev pub as_answered : Rest → Result Rest Refusal → Answered
 as_answered rest (Ok next) = record { answer = 0; rest = next }
 as_answered rest (Err r) = record { answer = number r; rest = rest }
-
--- what the run has beside its stations
-abbrev pub rest_of : Line → Rest
-rest_of l = record { plan = l.plan; time = l.time; count = l.count }
 
 -- and the answer
 abbrev pub answered_of : Played → Answered

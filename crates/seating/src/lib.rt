@@ -7,21 +7,13 @@ ghost use Rattle.line.specs.Run.{no_station};
 ghost use Rattle.line.specs.Fresh.{no_stations};
 ghost use Rattle.run.specs.Play.{placed_to};
 ghost use Rattle.station.specs.Record as board;
+ghost use Rattle.line.specs.Held as held;
 ghost use Rattle.seating.specs.Seating as seats;
 
-use clock::Moment;
-use line::Line;
+use line::{Line, Rest};
 use refusal::Refusal;
 use setup::Plan;
 use station::{Outcome, Station};
-
-// What a run has beside its table: its plan, its time, and how many messages are in flight.
-#[derive(Clone, Copy)]
-pub struct Rest {
-    pub plan: Plan,
-    pub time: Moment,
-    pub count: u64,
-}
 
 // ---- one station of the table
 
@@ -98,15 +90,11 @@ pub fn load(rest: Rest, table: &[Station]) -> Line
 
 // The stations are put back into the table, and what the run has beside it is handed back.
 pub fn store(table: &mut [Station], line: Line) -> Rest
-    ensures { (result ≡ seats.rest_of line)
+    ensures { (result ≡ held.rest_of line)
         × (table.new ≡ placed_to table.old line.stations 12) }
 {
     for (i, &s) in line.stations.iter().enumerate() {
         put(table, i, s);
     }
-    Rest {
-        plan: line.plan,
-        time: line.time,
-        count: line.count,
-    }
+    line.rest()
 }

@@ -4,7 +4,7 @@ use Rattle.std.proofs.Common.{ap, sym, ◌∙◌, ne_eqb, take-append-drop}
 use Rattle.setup.specs.declared.Plan.{Plan}
 use Rattle.station.specs.declared.Station.{Station}
 use Rattle.event.specs.declared.Event.{Event}
-use Rattle.seating.specs.declared.Rest.{Rest}
+use Rattle.line.specs.declared.Rest.{Rest}
 use Rattle.seating.specs.Seating.{Answered}
 use Rattle.table.specs.declared.Seats.{Seats}
 use Rattle.table.specs.Table.{many, lent_of, turn, turned, begun, begun_table, played, played_table, begun_on, played_on}

@@ -34,7 +34,7 @@ use Rattle.run.specs.Play.{placed_to, holding, comes, comes_words, play_answer}
 use Rattle.run.specs.Play as core
 use Rattle.run.proofs.Follows.{placed-length, first-placed, play-answer, play-run, play-keeps, plays-all}
 use Rattle.run.specs.Follows.{Kept, plays_all}
-use Rattle.seating.specs.declared.Rest.{Rest}
+use Rattle.line.specs.declared.Rest.{Rest}
 use Rattle.seating.specs.Seating.{Answered}
 use Rattle.table.specs.Table.{table_run, bad_table, rest_of, table_answer, played, played_table, played_words, starting, fresh_answer, begun, begun_table}
 use Rattle.seating.specs.Seating.{line_to, line_of, answered_of}

@@ -30,7 +30,7 @@ use Rattle.line.specs.Fresh.{no_stations}
 use Rattle.run.specs.Play.{placed_to}
 use Rattle.run.specs.Limits.{Held, held-is}
 use Rattle.run.proofs.Follows.{placed-length, placed_at, first-placed}
-use Rattle.seating.specs.declared.Rest.{Rest}
+use Rattle.line.specs.declared.Rest.{Rest}
 use Rattle.table.specs.declared.Question.{Question}
 use Rattle.table.specs.declared.Question.TheVariants as asks
 use Rattle.table.specs.Core as tells

@@ -16,7 +16,7 @@ use Rattle.line.specs.Record.{bad_record}
 use Rattle.line.specs.Event.{effect, step_answer}
 use Rattle.line.specs.Fresh.{no_plan}
 use Rattle.run.specs.Play.{comes_words}
-use Rattle.seating.specs.declared.Rest.{Rest}
+use Rattle.line.specs.declared.Rest.{Rest}
 use Rattle.seating.specs.Seating.{Answered}
 use Rattle.table.specs.declared.Seats.{Seats}
 use Rattle.table.specs.declared.Turned as code

@@ -10,9 +10,8 @@ ghost use Rattle.table.specs.Table as lent;
 ghost use Rattle.table.specs.Core as middle;
 
 use event::Event;
-use line::{Line, Shown};
+use line::{Line, Rest, Shown};
 use refusal::Refusal;
-use seating::Rest;
 use setup::Plan;
 use station::Station;
 

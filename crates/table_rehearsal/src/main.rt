@@ -3,9 +3,8 @@
 
 use clock::Moment;
 use event::Event;
-use line::Line;
+use line::{Line, Rest};
 use refusal::Refusal;
-use seating::Rest;
 use setup::Plan;
 use std::io;
 use table::{Seats, Turned};

@@ -10,30 +10,30 @@ use Rattle.run.proofs.deliver.Goals.{After-take_out-left}
 pub returns-in_default : goal.returns-in_default
 returns-in_default c =
     let a = c.args in
-    does-none a.plan a.time a.count a.s a.words.now a.names _ (stands-found c.requires _ _ c.in_default.ensures.found) refl
+    does-none a.rest.plan a.rest.time a.rest.count a.s a.words.now a.names _ (stands-found c.requires _ _ c.in_default.ensures.found) refl
 
-pub overflow_sub-count : goal.overflow_sub-count
-overflow_sub-count c =
+pub overflow_sub-rest : goal.overflow_sub-rest
+overflow_sub-rest c =
     let a = c.args in
-    omega (arith, does-below a.plan a.time a.count a.s a.words.now a.names _ (stands-found c.requires _ _ c.in-Some.ensures.found) (λ e. omega (arith, c.in-Some.ensures.within, e)) _ c.message_at-m.ensures _ c.heard-o.ensures c.requires)
+    omega (arith, does-below a.rest.plan a.rest.time a.rest.count a.s a.words.now a.names _ (stands-found c.requires _ _ c.in-Some.ensures.found) (λ e. omega (arith, c.in-Some.ensures.within, e)) _ c.message_at-m.ensures _ c.heard-o.ensures c.requires)
 
-pub overflow_add-count : goal.overflow_add-count
-overflow_add-count c =
+pub overflow_add-rest : goal.overflow_add-rest
+overflow_add-rest c =
     let a = c.args in
-    omega (arith, c.count_sent.ensures, sent-few a.plan a.names.recipient c.heard-o.result, (lies-limits c.requires.lies).3)
+    omega (arith, c.count_sent.ensures, sent-few a.rest.plan a.names.recipient c.heard-o.result, (lies-limits c.requires.lies).3)
 
-pub returns-then-count-count_sent-gt-MAX_FLIGHT : goal.returns-then-count-count_sent-gt-MAX_FLIGHT
-returns-then-count-count_sent-gt-MAX_FLIGHT c =
+pub returns-then-rest-count_sent-gt-MAX_FLIGHT : goal.returns-then-rest-count_sent-gt-MAX_FLIGHT
+returns-then-rest-count_sent-gt-MAX_FLIGHT c =
     let a = c.args in
-    does-full a.plan a.time a.count a.s a.words.now a.names _ (stands-found c.requires _ _ c.in-Some.ensures.found) (λ e. omega (arith, c.in-Some.ensures.within, e)) _ c.message_at-m.ensures _ c.heard-o.ensures (omega arith)
+    does-full a.rest.plan a.rest.time a.rest.count a.s a.words.now a.names _ (stands-found c.requires _ _ c.in-Some.ensures.found) (λ e. omega (arith, c.in-Some.ensures.within, e)) _ c.message_at-m.ensures _ c.heard-o.ensures (omega arith)
 
 pub take_out-left-requires : goal.take_out-left-requires
 take_out-left-requires c =
     let a = c.args in
-    omega (arith, does-below a.plan a.time a.count a.s a.words.now a.names _ (stands-found c.requires _ _ c.in-Some.ensures.found) (λ e. omega (arith, c.in-Some.ensures.within, e)) _ c.message_at-m.ensures _ c.heard-o.ensures c.requires, (lies-limits c.requires.lies).3)
+    omega (arith, does-below a.rest.plan a.rest.time a.rest.count a.s a.words.now a.names _ (stands-found c.requires _ _ c.in-Some.ensures.found) (λ e. omega (arith, c.in-Some.ensures.within, e)) _ c.message_at-m.ensures _ c.heard-o.ensures c.requires, (lies-limits c.requires.lies).3)
 
 -- there is room for what its recipient sends
-room : (c : After-take_out-left) → Room c.take_out-left.new.words c.take_out-left.result c.args.plan c.args.time.0 c.args.names.recipient (c.args.s.round + 1) c.heard-o.result
+room : (c : After-take_out-left) → Room c.take_out-left.new.words c.take_out-left.result c.args.rest.plan c.args.rest.time.0 c.args.names.recipient (c.args.s.round + 1) c.heard-o.result
 room c =
     let a = c.args in
     let limits = lies-limits c.requires.lies in
@@ -41,22 +41,22 @@ room c =
       place = limits.0;
       low = limits.1;
       fits = limits.2;
-      room = does-room a.plan a.time a.count a.s a.words.now a.names _ (stands-found c.requires _ _ c.in-Some.ensures.found) (λ e. omega (arith, c.in-Some.ensures.within, e)) _ c.message_at-m.ensures _ c.heard-o.ensures (omega arith) _ _ c.take_out-left.ensures.value c.take_out-left.ensures.words_after c.requires;
+      room = does-room a.rest.plan a.rest.time a.rest.count a.s a.words.now a.names _ (stands-found c.requires _ _ c.in-Some.ensures.found) (λ e. omega (arith, c.in-Some.ensures.within, e)) _ c.message_at-m.ensures _ c.heard-o.ensures (omega arith) _ _ c.take_out-left.ensures.value c.take_out-left.ensures.words_after c.requires;
     }
 
 pub returns-then-quiet : goal.returns-then-quiet
 returns-then-quiet c =
     let a = c.args in
-    let none = sends_none a.plan a.time.0 a.names.recipient (a.s.round + 1) _ _ _ (room (goal.at.returns-then-quiet c).After-take_out-left) (sym c.quiet.ensures ∙ c.if-quiet.true) in
-    does-comes a.plan a.time a.count a.s a.words.now a.names _ (stands-found c.requires _ _ c.in-Some.ensures.found) (λ e. omega (arith, c.in-Some.ensures.within, e)) _ c.message_at-m.ensures _ c.heard-o.ensures (omega arith) _ _ c.take_out-left.ensures.value c.take_out-left.ensures.words_after (λ j. search rules) _ _ none.0 none.1
+    let none = sends_none a.rest.plan a.rest.time.0 a.names.recipient (a.s.round + 1) _ _ _ (room (goal.at.returns-then-quiet c).After-take_out-left) (sym c.quiet.ensures ∙ c.if-quiet.true) in
+    does-comes a.rest.plan a.rest.time a.rest.count a.s a.words.now a.names _ (stands-found c.requires _ _ c.in-Some.ensures.found) (λ e. omega (arith, c.in-Some.ensures.within, e)) _ c.message_at-m.ensures _ c.heard-o.ensures (omega arith) _ _ c.take_out-left.ensures.value c.take_out-left.ensures.words_after (λ j. search rules) _ _ none.0 none.1
 
 pub overflow_add-s : goal.overflow_add-s
 overflow_add-s c = omega (arith, (lies-limits c.requires.lies).1)
 
-pub tell_noted-after-requires : goal.tell_noted-after-requires
-tell_noted-after-requires c = room (goal.at.tell_noted-after-requires c).After-take_out-left
+pub tell_noted-count-requires : goal.tell_noted-count-requires
+tell_noted-count-requires c = room (goal.at.tell_noted-count-requires c).After-take_out-left
 
 pub returns : goal.returns
 returns c =
     let a = c.args in
-    does-comes a.plan a.time a.count a.s a.words.now a.names _ (stands-found c.requires _ _ c.in-Some.ensures.found) (λ e. omega (arith, c.in-Some.ensures.within, e)) _ c.message_at-m.ensures _ c.heard-o.ensures (omega arith) _ _ c.take_out-left.ensures.value c.take_out-left.ensures.words_after (λ j. search rules) _ _ c.tell_noted-after.ensures.value c.tell_noted-after.ensures.words_after
+    does-comes a.rest.plan a.rest.time a.rest.count a.s a.words.now a.names _ (stands-found c.requires _ _ c.in-Some.ensures.found) (λ e. omega (arith, c.in-Some.ensures.within, e)) _ c.message_at-m.ensures _ c.heard-o.ensures (omega arith) _ _ c.take_out-left.ensures.value c.take_out-left.ensures.words_after (λ j. search rules) _ _ c.tell_noted-count.ensures.value c.tell_noted-count.ensures.words_after

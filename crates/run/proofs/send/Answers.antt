@@ -10,7 +10,7 @@ use Rattle.run.proofs.Hearing.{does-sound, does-unsigned, does-filled, does-sent
 use Rattle.run.proofs.send.Goals as goal
 
 pub returns-then-not-has : goal.returns-then-not-has
-returns-then-not-has c = let a = c.args in does-sound a.plan a.time a.count a.s a.signed.now a.words.now a.sender a.recipient a.round a.signers (sym c.has.ensures ∙ c.if-not-has.true)
+returns-then-not-has c = let a = c.args in does-sound a.rest.plan a.rest.time a.rest.count a.s a.signed.now a.words.now a.sender a.recipient a.round a.signers (sym c.has.ensures ∙ c.if-not-has.true)
 
 pub unsigned-requires : goal.unsigned-requires
 unsigned-requires c = (omega (arith, (held-settled c.requires.stands.lies.held).few, c.requires.signed_len), omega (arith, (lies-limits c.requires.stands.lies).1))
@@ -18,34 +18,34 @@ unsigned-requires c = (omega (arith, (held-settled c.requires.stands.lies.held).
 pub returns-then-unsigned : goal.returns-then-unsigned
 returns-then-unsigned c =
     let a = c.args in
-    does-unsigned a.plan a.time a.count a.s a.signed.now a.words.now a.sender a.recipient a.round a.signers (sym c.has.ensures ∙ c.if-not-has.false) _ c.unsigned.ensures c.if-unsigned.true
+    does-unsigned a.rest.plan a.rest.time a.rest.count a.s a.signed.now a.words.now a.sender a.recipient a.round a.signers (sym c.has.ensures ∙ c.if-not-has.false) _ c.unsigned.ensures c.if-unsigned.true
 
-pub overflow_add-count : goal.overflow_add-count
-overflow_add-count c =
+pub overflow_add-rest : goal.overflow_add-rest
+overflow_add-rest c =
     let a = c.args in
-    omega (arith, c.count_sent.ensures, sent-few a.plan a.recipient c.heard-o.result, (lies-limits c.requires.stands.lies).3)
+    omega (arith, c.count_sent.ensures, sent-few a.rest.plan a.recipient c.heard-o.result, (lies-limits c.requires.stands.lies).3)
 
-pub returns-then-count-count_sent-gt-MAX_FLIGHT : goal.returns-then-count-count_sent-gt-MAX_FLIGHT
-returns-then-count-count_sent-gt-MAX_FLIGHT c =
+pub returns-then-rest-count_sent-gt-MAX_FLIGHT : goal.returns-then-rest-count_sent-gt-MAX_FLIGHT
+returns-then-rest-count_sent-gt-MAX_FLIGHT c =
     let a = c.args in
-    does-filled a.plan a.time a.count a.s a.signed.now a.words.now a.sender a.recipient a.round a.signers (sym c.has.ensures ∙ c.if-not-has.false) _ c.unsigned.ensures c.if-unsigned.false _ c.heard-o.ensures (omega arith)
+    does-filled a.rest.plan a.rest.time a.rest.count a.s a.signed.now a.words.now a.sender a.recipient a.round a.signers (sym c.has.ensures ∙ c.if-not-has.false) _ c.unsigned.ensures c.if-unsigned.false _ c.heard-o.ensures (omega arith)
 
 pub returns-then-quiet : goal.returns-then-quiet
 returns-then-quiet c =
     let a = c.args in
     let limits = lies-limits c.requires.stands.lies in
-    let none = sends_none a.plan a.time.0 a.recipient (a.s.round + 1) c.heard-o.result a.words.now a.count (record { place = limits.0; low = limits.1; fits = limits.2; room = omega (arith, c.count_sent.ensures, limits.4) }) (sym c.quiet.ensures ∙ c.if-quiet.true) in
-    does-sent a.plan a.time a.count a.s a.signed.now a.words.now a.sender a.recipient a.round a.signers (sym c.has.ensures ∙ c.if-not-has.false) _ c.unsigned.ensures c.if-unsigned.false _ c.heard-o.ensures (omega arith) _ _ none.0 none.1
+    let none = sends_none a.rest.plan a.rest.time.0 a.recipient (a.s.round + 1) c.heard-o.result a.words.now a.rest.count (record { place = limits.0; low = limits.1; fits = limits.2; room = omega (arith, c.count_sent.ensures, limits.4) }) (sym c.quiet.ensures ∙ c.if-quiet.true) in
+    does-sent a.rest.plan a.rest.time a.rest.count a.s a.signed.now a.words.now a.sender a.recipient a.round a.signers (sym c.has.ensures ∙ c.if-not-has.false) _ c.unsigned.ensures c.if-unsigned.false _ c.heard-o.ensures (omega arith) _ _ none.0 none.1
 
 pub overflow_add-s : goal.overflow_add-s
 overflow_add-s c = omega (arith, (lies-limits c.requires.stands.lies).1)
 
-pub tell_noted-after-requires : goal.tell_noted-after-requires
-tell_noted-after-requires c =
+pub tell_noted-count-requires : goal.tell_noted-count-requires
+tell_noted-count-requires c =
     let limits = lies-limits c.requires.stands.lies in
     record { place = limits.0; low = limits.1; fits = limits.2; room = omega (arith, c.count_sent.ensures, limits.4) }
 
 pub returns : goal.returns
 returns c =
     let a = c.args in
-    does-sent a.plan a.time a.count a.s a.signed.now a.words.now a.sender a.recipient a.round a.signers (sym c.has.ensures ∙ c.if-not-has.false) _ c.unsigned.ensures c.if-unsigned.false _ c.heard-o.ensures (omega arith) _ _ c.tell_noted-after.ensures.value c.tell_noted-after.ensures.words_after
+    does-sent a.rest.plan a.rest.time a.rest.count a.s a.signed.now a.words.now a.sender a.recipient a.round a.signers (sym c.has.ensures ∙ c.if-not-has.false) _ c.unsigned.ensures c.if-unsigned.false _ c.heard-o.ensures (omega arith) _ _ c.tell_noted-count.ensures.value c.tell_noted-count.ensures.words_after

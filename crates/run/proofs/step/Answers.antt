@@ -21,7 +21,7 @@ pub bounds-l-i : goal.bounds-l-i
 bounds-l-i c = omega (arith, (held-settled c.requires).few, c.in-Some.ensures.within)
 
 pub hear-requires : goal.hear-requires
-hear-requires c = record { stands = line-stands c.requires _ _ c.in-Some.ensures.heard c.in-Some.ensures.within; signed_len = search rules }
+hear-requires c = rw c.rest.ensures (record { stands = line-stands c.requires _ _ c.in-Some.ensures.heard c.in-Some.ensures.within; signed_len = search rules })
 
 pub seat-requires : goal.seat-requires
 seat-requires c = omega (arith, (held-settled c.requires).few, c.in-Some.ensures.within)
@@ -34,7 +34,7 @@ returns-in_err-h c =
     let few = (held-settled c.requires).few in
     let noted = noted-all a.l _ (omega (arith, few)) c.note_signed.ensures in
     let k = c.in-Some.ensures.within in
-    let heard = line-heard c.requires _ _ c.in-Some.ensures.heard k _ _ noted _ _ c.in_err-h.ensures in
+    let heard = line-heard c.requires _ _ c.in-Some.ensures.heard k _ _ noted _ _ (rw c.rest.ensures at c.in_err-h.ensures) in
     rw (p.1, p.2) (record { value = sym (seats-same a.l c.in-Some.i _ _ (omega (arith, k)) (table-station a.l _ (omega (arith, k)))) ∙ heard.0; words_after = heard.1 })
 
 pub returns : goal.returns
@@ -42,5 +42,5 @@ returns c =
     let a = c.args in
     let few = (held-settled c.requires).few in
     let noted = noted-all a.l _ (omega (arith, few)) c.note_signed.ensures in
-    let heard = line-heard c.requires _ _ c.in-Some.ensures.heard c.in-Some.ensures.within _ _ noted _ _ c.in_ok-h.ensures in
+    let heard = line-heard c.requires _ _ c.in-Some.ensures.heard c.in-Some.ensures.within _ _ noted _ _ (rw c.rest.ensures at c.in_ok-h.ensures) in
     record { value = ap (λ (x : Line). record { answer = 0; line = x }) c.seat.ensures ∙ heard.0; words_after = heard.1 }

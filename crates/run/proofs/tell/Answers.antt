@@ -9,16 +9,16 @@ use Rattle.run.proofs.tell.Goals as goal
 pub returns-then-quiet : goal.returns-then-quiet
 returns-then-quiet c =
     let a = c.args in
-    let none = sends_none a.plan a.time.0 a.i a.round a.o a.words.now a.count c.requires (sym c.quiet.ensures ∙ c.if-quiet.true) in
+    let none = sends_none a.rest.plan a.rest.time.0 a.i a.round a.o a.words.now a.rest.count c.requires (sym c.quiet.ensures ∙ c.if-quiet.true) in
     record { value = none.0; words_after = none.1 }
 
 pub returns : goal.returns
 returns c =
     let a = c.args in
-    let behind : c.unwrap_or-behind.result ≡ (answer_of a.count c.send.result).count =
-    c.unwrap_or-behind.ensures ∙ sym (count-answer_of a.count c.send.result) in
+    let behind : c.unwrap_or-behind.result ≡ (answer_of a.rest.count c.send.result).count =
+    c.unwrap_or-behind.ensures ∙ sym (count-answer_of a.rest.count c.send.result) in
     let both =
-    both-sends a.plan a.time.0 a.i a.round a.o a.words.now a.count c.requires (λ j. search rules) (search rules) _ _ _ _ _ _ _
+    both-sends a.rest.plan a.rest.time.0 a.i a.round a.o a.words.now a.rest.count c.requires (λ j. search rules) (search rules) _ _ _ _ _ _ _
     (c.part.ensures ∙ rw c.others-to.ensures) (c.part-2.ensures ∙ rw c.others-to.ensures) c.send.ensures.value c.send.ensures.words_after
     (rw behind at c.send-2.ensures.value) (rw behind at c.send-2.ensures.words_after) (rw c.only.ensures) in
     record {

@@ -14,4 +14,4 @@ loop-i-preserved c =
 pub returns : goal.returns
 returns c =
     let twelve : c.loop-i.i ≡ 12 = omega arith in
-    (refl, c.loop-i.invariant ∙ ap (placed_to c.args.table.now c.args.line.stations) twelve)
+    (c.rest.ensures, c.loop-i.invariant ∙ ap (placed_to c.args.table.now c.args.line.stations) twelve)

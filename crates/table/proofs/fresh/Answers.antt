@@ -2,7 +2,7 @@
 use Rattle.std.proofs.Common.{refl, sym, ap}
 use Rattle.std.proofs.lemmas.Result.{err_from_is_err_and}
 use Rattle.refusal.proofs.Laws.{refused}
-use Rattle.seating.specs.declared.Rest.{Rest}
+use Rattle.line.specs.declared.Rest.{Rest}
 use Rattle.seating.specs.Seating.{line_to, line_of}
 use Rattle.table.specs.Table.{starting}
 use Rattle.table.specs.Core.{begins-no, begins-ten, begins-yes}

@@ -4,8 +4,9 @@ use Rattle.std.proofs.lemmas.Result.{err_from_is_err_and}
 use Rattle.refusal.specs.Refusal.{number}
 use Rattle.line.specs.declared.Line.{Line}
 use Rattle.run.specs.Play.{placed_to}
-use Rattle.seating.specs.declared.Rest.{Rest}
-use Rattle.seating.specs.Seating.{line_to, Answered, rest_of}
+use Rattle.line.specs.declared.Rest.{Rest}
+use Rattle.seating.specs.Seating.{line_to, Answered}
+use Rattle.line.specs.Held.{rest_of}
 use Rattle.table.specs.Same.{taken_back}
 use Rattle.table.proofs.Same.{event-comes}
 use Rattle.table.proofs.play.Goals as goal

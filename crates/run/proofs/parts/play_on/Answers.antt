@@ -23,11 +23,11 @@ turned c =
       | in-None+in-Err-pass w ↦
           turned_as (turn-refused _ _ _ inv.on inv.beside _ _ _ _ w.in-Err-pass.ensures.value w.in-Err-pass.ensures.words_after) w.words-is w.signed-is w.end-is w.long-is w.line-is (w.answer-is ∙ w.number-in-Err-pass.ensures)
       | in-Some+in-Ok-hear+then-heard-was w ↦
-          turned_as (turn-starts _ _ _ inv.on inv.beside _ _ _ w.in-Some.ensures.heard w.in-Some.ensures.within _ _ w.in-Ok-hear.ensures _ _ w.line_end-long-then-heard-was.ensures.value w.line_end-long-then-heard-was.ensures.out_after) w.words-is w.signed-is w.end-is w.long-is w.line-is w.answer-is
+          turned_as (turn-starts _ _ _ inv.on inv.beside _ _ _ w.in-Some.ensures.heard w.in-Some.ensures.within _ _ (rw w.rest.ensures at w.in-Ok-hear.ensures) _ _ w.line_end-long-then-heard-was.ensures.value w.line_end-long-then-heard-was.ensures.out_after) w.words-is w.signed-is w.end-is w.long-is w.line-is w.answer-is
       | in-Some+in-Ok-hear+else-heard-was w ↦
-          turned_as (turn-stays _ _ _ inv.on inv.beside _ _ _ w.in-Some.ensures.heard w.in-Some.ensures.within _ _ w.in-Ok-hear.ensures w.if-heard-was.false) w.words-is w.signed-is w.end-is w.long-is w.line-is w.answer-is
+          turned_as (turn-stays _ _ _ inv.on inv.beside _ _ _ w.in-Some.ensures.heard w.in-Some.ensures.within _ _ (rw w.rest.ensures at w.in-Ok-hear.ensures) w.if-heard-was.false) w.words-is w.signed-is w.end-is w.long-is w.line-is w.answer-is
       | in-Some+in-Err-hear w ↦
-          turned_as (turn-unheard _ _ _ inv.on inv.beside _ _ _ w.in-Some.ensures.heard w.in-Some.ensures.within _ _ w.in-Err-hear.ensures refl) w.words-is w.signed-is w.end-is w.long-is w.line-is (w.answer-is ∙ w.number-in-Err-hear.ensures)
+          turned_as (turn-unheard _ _ _ inv.on inv.beside _ _ _ w.in-Some.ensures.heard w.in-Some.ensures.within _ _ (rw w.rest.ensures at w.in-Err-hear.ensures) refl) w.words-is w.signed-is w.end-is w.long-is w.line-is (w.answer-is ∙ w.number-in-Err-hear.ensures)
     ]
 
 pub loop-next-init : goal.loop-next-init
@@ -66,7 +66,7 @@ note_signed-requires c =
 pub hear-requires : goal.hear-requires
 hear-requires c =
     let inv = c.loop-next.invariant in
-    record { stands = line-stands (turn-held _ _ _ inv.on inv.beside) _ _ (turn-hearer _ _ _ inv.on inv.beside _ _ c.in-Some.ensures.heard) (omega (arith, c.in-Some.ensures.within, inv.beside.stations)); signed_len = inv.beside.twelve }
+    rw c.rest.ensures (record { stands = line-stands (turn-held _ _ _ inv.on inv.beside) _ _ (turn-hearer _ _ _ inv.on inv.beside _ _ c.in-Some.ensures.heard) (omega (arith, c.in-Some.ensures.within, inv.beside.stations)); signed_len = inv.beside.twelve })
 
 pub slice_bounds-event_line-end : goal.slice_bounds-event_line-end
 slice_bounds-event_line-end c = let b = (turned c).beside in omega (arith, b.fits, b.room)

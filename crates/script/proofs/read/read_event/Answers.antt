@@ -21,12 +21,12 @@ returns-then-outside c = unread-event _ _ 1 _ _ refl refl (rw (sym c.outside.ens
 pub returns-in_default : goal.returns-in_default
 unfolding read_event
 returns-in_default c = unread-event _ _ _ _ _ refl refl (rw (
-      (sym
-          c.outside.ensures
-          ∙ c.if-outside.false),
-      (sym
-          c.read_number-answer.ensures ∙ ap as_number c.unwrap_err.ensures),
-    ))
+  (sym
+      c.outside.ensures
+      ∙ c.if-outside.false),
+  (sym
+      c.read_number-answer.ensures ∙ ap as_number c.unwrap_err.ensures),
+))
 
 pub read_advance-requires : goal.read_advance-requires
 read_advance-requires c = (inside 1 max_stations _ (sym
