@@ -1,5 +1,6 @@
 // The messages on their way, in words that the caller lends: three words to a message, the first its four names in one
-// number, then the signers, then the time sent. A flight of `count` messages is the first `count` of the words' messages.
+// number, then the signers, then the time sent. A flight of `count` messages is the first `count` of the words' messages; the two
+// come apart, since any count and any words that are lent have to be answered.
 #![tactic(auto)]
 
 ghost use Rattle.std.specs.Prelude.{◌≡◌, true, ◌++◌, ◌+◌, ◌*◌, ◌%◌, ◌≤◌, ◌<◌, length, get_or, unwrap_or, IfSome};
@@ -20,7 +21,8 @@ pub struct Names {
     pub kind: u64,
 }
 
-// A message on its way: kind 0 is a ready, kind 1 a relay; the signers are a mask of stations.
+// A message on its way: kind 0 is a ready, kind 1 a relay; the signers are a mask of stations. The kind stays a number: a record
+// may hold any, and 10 answers it.
 #[derive(Clone, Copy)]
 pub struct Message {
     pub sender: u64,

@@ -72,7 +72,7 @@ impl<P: Print> Write for Page<'_, P> {
 
 // ---- an answer
 
-// What is answered to an event or a question, with the values of a question.
+// What is answered to an event or a question, with the values of a question: refused, they are printed too, as zeros.
 #[derive(Clone, Copy)]
 pub struct Told {
     pub answer: u64,

@@ -98,7 +98,7 @@ impl TryFrom<u64> for Kind {
     }
 }
 
-// An advance's increments: the first `count` of the places. Another event has none.
+// An advance's increments: the first `count` of the places, since memory is fixed. Another event has none.
 #[derive(Clone, Copy)]
 struct Increments {
     places: [u64; 16],

@@ -304,6 +304,7 @@ fn seat(mut l: Line, i: u64, h: Heard) -> Line
 }
 
 // ---- advancing
+// That the record is valid (`Held`) is said in each contract: it is of the run by value and of the words that are lent beside it.
 
 // Which of 12, 13 and 14 an increment meets; 14 only where it does not meet 12.
 #[derive(Clone, Copy)]

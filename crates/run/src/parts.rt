@@ -60,6 +60,7 @@ fn play_on(
     ensures out_after { out.new ≡ (part.played_from (max_script - number) bytes.now (part.standing 0 line words.old next number out.old place)).out }
 {
     let n = line.plan.stations;
+    // No `for`: how far it goes the bytes and the room say.
     while goes_on(bytes, next, number, out, place) {
         let read = match script::read_event(bytes, next, n) {
             Ok(read) => read,

@@ -124,7 +124,7 @@ fn read_advance(bytes: &[u8], at: usize, stations: usize) -> Result<EventRead, R
     })
 }
 
-// Reads what stands behind kind 2: sender, recipient, round, message kind.
+// Reads what stands behind kind 2: sender, recipient, round, message kind. One function for kinds 2 and 3 would test the kind again.
 fn read_deliver(bytes: &[u8], at: usize) -> Result<EventRead, Refusal>
     ensures { form.told_event bytes.now result ≡ form.as_event bytes.now (form.deliver_from (form.read_many 4 bytes.now at)) }
 {

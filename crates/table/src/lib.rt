@@ -92,7 +92,7 @@ pub fn ask(
 
 // ---- a table of one's own
 
-// A table by value: its stations are the first `length` of twelve places.
+// A table by value: its stations are the first `length` of twelve places, since memory is fixed.
 #[derive(Clone, Copy)]
 pub struct Seats {
     pub length: usize,

@@ -114,16 +114,7 @@ pub fn write_number(v: u64, out: &mut [u8], at: usize) -> Result<usize, Refusal>
     ensures value { writer.as_written result ≡ writer.wrote out.old at (number.number_bytes v) }
     ensures out_after { out.new ≡ writer.buffer out.old at (number.number_bytes v) }
 {
-    let space = out.len();
-    if space < at {
-        return Err(Refusal::Short);
-    }
-    let count = size(v);
-    if space - at < count {
-        return Err(Refusal::Short);
-    }
-    put_number(v, out, at);
-    Ok(count)
+    write_numbers(&[v], &[], out, at)
 }
 
 // ---- setups and events
