@@ -25,31 +25,31 @@ abbrev pub and_all : List ℕ → Many → Many
 and_all [] m = m
 and_all (v ∷ vs) m = and_many v (and_all vs m)
 
-all_one : (vs : List ℕ) (v : ℕ) (m : Many) → and_all (vs ++ (v ∷ [])) m ≡ and_all vs (and_many v m)
+pub all_one : (vs : List ℕ) (v : ℕ) (m : Many) → and_all (vs ++ (v ∷ [])) m ≡ and_all vs (and_many v m)
 all_one [] v m = refl
 all_one (x ∷ vs) v m = ap (and_many x) (all_one vs v m)
 
-all-many : (vs ws : List ℕ) (next : ℕ) → and_all vs (many ws next) ≡ many (vs ++ ws) next
+pub all-many : (vs ws : List ℕ) (next : ℕ) → and_all vs (many ws next) ≡ many (vs ++ ws) next
 all-many [] ws next = refl
 all-many (v ∷ vs) ws next = ap (and_many v) (all-many vs ws next)
 
-all-stopped : (vs : List ℕ) (number : ℕ) → and_all vs (stopped number) ≡ stopped number
+pub all-stopped : (vs : List ℕ) (number : ℕ) → and_all vs (stopped number) ≡ stopped number
 all-stopped [] number = refl
 all-stopped (v ∷ vs) number = ap (and_many v) (all-stopped vs number)
 
 -- of count numbers at a place, i are read and stand in the first places, zeros behind them; the others begin at `place`
-pub record Taken (s : List ℕ) (at count : ℕ) (values : List ℕ) (place i : ℕ) : Type 0 where
+pub record Filled (s : List ℕ) (at count : ℕ) (values : List ℕ) (place i : ℕ) : Type 0 where
   pub vs : List ℕ
   pub long : length vs ≡ i
   pub same : values ≡ vs ++ replicate (count - i) 0
   pub goes : read_many count s at ≡ and_all vs (read_many (count - i) s place)
 
-pub taken_none : (s : List ℕ) (at count : ℕ) → count ≤ 12 → Taken s at count (take count (replicate 12 0)) at 0
-taken_none s at count h =
+pub filled_none : (s : List ℕ) (at count : ℕ) → count ≤ 12 → Filled s at count (take count (replicate 12 0)) at 0
+filled_none s at count h =
     let e : count - 0 ≡ count = omega arith in
     record { vs = []; long = refl; same = take-replicate count 12 0 h ∙ ap (λ k. replicate k 0) (sym e); goes = rw e refl }
 
-module _ (s : List ℕ) (at count : ℕ) (values : List ℕ) (place i : ℕ) (t : Taken s at count values place i) where
+module _ (s : List ℕ) (at count : ℕ) (values : List ℕ) (place i : ℕ) (t : Filled s at count values place i) where
   module _ (more : i < count) where
     left : count - i ≡ suc (count - (i + 1))
     left = omega arith
@@ -58,8 +58,8 @@ module _ (s : List ℕ) (at count : ℕ) (values : List ℕ) (place i : ℕ) (t 
     unfolding read_many
     step = rw left refl
 
-    pub taken_next : (v next : ℕ) → read_number s place ≡ Value v next → Taken s at count (set values i v) next (i + 1)
-    taken_next v next e = record {
+    pub filled_next : (v next : ℕ) → read_number s place ≡ Value v next → Filled s at count (set values i v) next (i + 1)
+    filled_next v next e = record {
       vs = t.vs ++ (v ∷ []);
       long = length-append t.vs (v ∷ []) ∙ omega (arith, t.long);
       same =
@@ -71,26 +71,26 @@ module _ (s : List ℕ) (at count : ℕ) (values : List ℕ) (place i : ℕ) (t 
           ∙ sym (all_one t.vs v (read_many (count - (i + 1)) s next));
     }
 
-    pub taken-stopped : (number : ℕ) → read_number s place ≡ Refused number → read_many count s at ≡ stopped number
-    taken-stopped number e =
+    pub filled-stopped : (number : ℕ) → read_number s place ≡ Refused number → read_many count s at ≡ stopped number
+    filled-stopped number e =
         t.goes ∙ ap (and_all t.vs) (step ∙ ap (λ (r : Number). on_number r (λ v next. and_many v (read_many (count - (i + 1)) s next)) stopped) e)
         ∙ all-stopped t.vs number
 
-  pub taken-all : count ≤ i → read_many count s at ≡ many t.vs place
+  pub filled-all : count ≤ i → read_many count s at ≡ many t.vs place
   unfolding read_many
-  taken-all h =
+  filled-all h =
       let e : count - i ≡ 0 = omega arith in
       t.goes ∙ ap (λ (k : ℕ). and_all t.vs (read_many k s place)) e ∙ all-many t.vs [] place
       ∙ ap (λ (l : List ℕ). many l place) (append-nil t.vs)
 
-  pub taken-numbers : i ≡ count
+  pub filled-numbers : i ≡ count
       → record { answer = 0; values = values ++ drop count (replicate 12 0); next = place } ≡ as_numbers s (read_many count s at)
   unfolding as_numbers padded
-  taken-numbers h =
+  filled-numbers h =
       let none : count - i ≡ 0 = omega arith in
       let long : count ≡ length t.vs = omega (arith, t.long) in
       let values-are : values ≡ t.vs = t.same ∙ ap (λ k. t.vs ++ replicate k 0) none ∙ append-nil t.vs in
-      rw (taken-all (omega arith)) (λ n. record {
+      rw (filled-all (omega arith)) (λ n. record {
         answer = 0;
         values = (ap₂ (λ (l r : List ℕ). l ++ r) values-are (drop-replicate count 12 0 ∙ ap (λ k. replicate (12 - k) 0) long)) n;
         next = place;

@@ -37,15 +37,15 @@ places-most (suc left) x = elim (dec_lt x 10) [
   | no h ↦ rw (le-ltb x 10 (omega arith)) (omega (arith, (places-most left (x / 10)).0), omega (arith, (places-most left (x / 10)).1))
 ]
 
-places-zero : (y : ℕ) → places_from 0 y ≡ 1
+pub places-zero : (y : ℕ) → places_from 0 y ≡ 1
 unfolding places_from
 places-zero y = refl
 
-places-low : (left x : ℕ) → x < 10 → places_from (suc left) x ≡ 1
+pub places-low : (left x : ℕ) → x < 10 → places_from (suc left) x ≡ 1
 unfolding places_from
 places-low left x h = rw (lt-ltb x 10 h) refl
 
-places-high : (left x : ℕ) → 10 ≤ x → places_from (suc left) x ≡ places_from left (x / 10) + 1
+pub places-high : (left x : ℕ) → 10 ≤ x → places_from (suc left) x ≡ places_from left (x / 10) + 1
 unfolding places_from
 places-high left x h = rw (le-ltb x 10 h) refl
 

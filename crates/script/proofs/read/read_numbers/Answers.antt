@@ -2,7 +2,7 @@
 -- Assumes nothing.
 use Rattle.std.proofs.Common.{ℕ, ◌≤◌, ◌<◌, ◌≡◌, length, take, replicate, length-take-le, refl, ap, sym, ◌∙◌, arith}
 use Rattle.number.specs.Number.{as_number}
-use Rattle.script.proofs.ReadLaws.{taken_none, taken_next, taken-stopped, taken-numbers, stopped-numbers}
+use Rattle.script.proofs.ReadLaws.{filled_none, filled_next, filled-stopped, filled-numbers, stopped-numbers}
 use Rattle.script.proofs.read.read_numbers.Goals as goal
 
 -- as many places as numbers are asked for
@@ -13,19 +13,19 @@ counted : {count i : ℕ} → count ≤ 12 → i < length {A = ℕ} (take count 
 counted h b = omega (arith, places h)
 
 pub loop-value-init : goal.loop-value-init
-loop-value-init c = taken_none _ _ _ c.requires
+loop-value-init c = filled_none _ _ _ c.requires
 
 pub returns-in_default : goal.returns-in_default
 returns-in_default c =
     stopped-numbers _ _ _ _
-    (taken-stopped _ _ _ _ _ _ c.loop-value.invariant (counted c.requires c.loop-value-test.true) _
+    (filled-stopped _ _ _ _ _ _ c.loop-value.invariant (counted c.requires c.loop-value-test.true) _
     (sym c.read_number-answer.ensures ∙ ap as_number c.unwrap_err.ensures))
     refl
 
 pub loop-value-preserved : goal.loop-value-preserved
 loop-value-preserved c =
-    taken_next _ _ _ _ _ _ c.loop-value.invariant (counted c.requires c.loop-value-test.true) _ _
+    filled_next _ _ _ _ _ _ c.loop-value.invariant (counted c.requires c.loop-value-test.true) _ _
     (sym c.in-Ok.ensures)
 
 pub returns : goal.returns
-returns c = taken-numbers _ _ _ _ _ _ c.loop-value.invariant (omega (arith, places c.requires))
+returns c = filled-numbers _ _ _ _ _ _ c.loop-value.invariant (omega (arith, places c.requires))
