@@ -18,6 +18,11 @@ abbrev pub on_number : {A : Type 0} → Number → (ℕ → ℕ → A) → (ℕ 
 on_number (Value v next) go stop = go v next
 on_number (Refused k) go stop = stop k
 
+-- the number of a refusal; 0 where there is none
+unfoldable pub refusal_of : Number → ℕ
+refusal_of (Value v next) = 0
+refusal_of (Refused k) = k
+
 -- ---- several numbers
 
 -- numbers that were read whole and the place behind them, or the refusal that stopped the reading
