@@ -7,7 +7,6 @@ ghost use Rattle.std.specs.Io.KnownBytes.{Consumes, IsAtEnd};
 
 use clock::{Moment, Reading};
 use flight::Message;
-use refusal::Refusal;
 use station::Station;
 use std::fmt;
 use std::io::{Read, Result, Write};
@@ -148,6 +147,6 @@ pub fn show(
 }
 
 // Prints what stops the reading.
-pub fn show_stop(rt: &impl Print, stop: Refusal) -> Result<()> {
+pub fn show_stop(rt: &impl Print, stop: u64) -> Result<()> {
     println!(rt; "script {stop}")
 }

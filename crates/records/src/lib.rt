@@ -305,6 +305,6 @@ pub fn single(rt: &impl Print, bytes: &[u8]) -> io::Result<()> {
             let messages = &sheet.messages[..placed(sheet.count)];
             paper::show(rt, told, sheet.time, stations, messages)
         }
-        Err(stop) => paper::show_stop(rt, stop),
+        Err(stop) => paper::show_stop(rt, stop.number()),
     }
 }
