@@ -1,5 +1,6 @@
 -- A number has one refusal: it can be named again.
 use Rattle.std.specs.Prelude.{ℕ, ◌≡◌, refl, Bool, true, false, eqb, Result, Ok, Err, is_err}
+use Rattle.std.specs.Result.{IsErrAnd}
 use Rattle.std.proofs.Common.{sym, ap, ◌∙◌, arith}
 use Rattle.refusal.specs.declared.Refusal.{Refusal}
 use Rattle.refusal.specs.declared.Refusal.TheVariants.{Stations, Faults, Limits, Marks, Gap, Step, Spread, First, Record, Barred, Exceeds, Drifts, Passes, Overdue, NoMessage, SoundSender, Unsigned, Full, Cut, LastZero, TenthByte, Kind, Short, Long, NotSound, Rounds}
@@ -105,6 +106,11 @@ bit true = 1
 bit false = 0
 
 module _ {A : Type 0} where
+  -- the exit of a `?` hands on the refusal that stopped it
+  pub passed : {e : Refusal} (r : Result A Refusal) → IsErrAnd r (λ y. y ≡ e) → r ≡ Err e
+  passed (Ok x) h = absurd h
+  passed (Err y) h = ap Err h
+
   -- what is no error is answered with 0, and what is one is not
   pub ok-zero : (r : Result A Refusal) → is_err r ≡ false → answer r ≡ 0
   unfolding bit

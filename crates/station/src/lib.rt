@@ -34,6 +34,7 @@ pub struct Outcome {
 }
 
 // The station as it is.
+#[tactic(auto, unfolding(crate::specs::Station::still))]
 fn still(s: Station) -> Outcome
     ensures { result ≡ rule.still s }
 {
@@ -148,6 +149,7 @@ impl Moving {
     }
 
     // Whether by so much its reading comes up from below to the mark.
+    #[tactic(auto, unfolding(crate::specs::Station::lands))]
     fn lands(self) -> bool
         ensures { result ≡ rule.lands self.plan self.by self.s }
     {
@@ -156,6 +158,7 @@ impl Moving {
     }
 
     // Whether by so much it would pass the mark.
+    #[tactic(auto, unfolding(crate::specs::Station::passes))]
     fn passes(self) -> bool
         ensures { result ≡ rule.passes self.plan self.by self.s }
     {
@@ -164,6 +167,7 @@ impl Moving {
     }
 
     // Whether by so much its reading would exceed the limit, or it would reach its next mark in the last round.
+    #[tactic(auto, unfolding(crate::specs::Record::exceeds))]
     fn exceeds(self) -> bool
         ensures { result ≡ board.exceeds self.plan self.by self.s }
     {
@@ -192,6 +196,7 @@ impl Moving {
 }
 
 // Whether the round, the period and the step are within the limits.
+#[tactic(auto, unfolding(crate::specs::Limits::small))]
 fn small(plan: Plan, s: Station) -> bool
     ensures { result ≡ limit.small plan s }
 {
@@ -199,6 +204,7 @@ fn small(plan: Plan, s: Station) -> bool
 }
 
 // Whether the reading and an increment are too.
+#[tactic(auto, unfolding(crate::specs::Limits::steady))]
 fn steady(plan: Plan, by: u64, s: Station) -> bool
     ensures { result ≡ limit.steady plan by s }
 {
@@ -228,6 +234,7 @@ pub fn advanced(plan: Plan, i: u64, by: u64, s: Station) -> Outcome
 }
 
 // Why an increment is refused: 12, then 14. Past the limits, 12.
+#[tactic(auto, unfolding(crate::specs::Record::move_answer))]
 pub fn refuses(plan: Plan, by: u64, s: Station) -> Result<(), Refusal>
     ensures { given.answer result ≡ pick (limit.steady plan by s) (board.move_answer plan by s) 12 }
 {
@@ -245,6 +252,7 @@ pub fn refuses(plan: Plan, by: u64, s: Station) -> Result<(), Refusal>
 }
 
 // Whether round, reading or last signed round is past its limit.
+#[tactic(auto, unfolding(crate::specs::Record::bad_numbers))]
 fn bad_numbers(s: Station) -> bool
     ensures { result ≡ board.bad_numbers s }
 {
@@ -252,6 +260,7 @@ fn bad_numbers(s: Station) -> bool
 }
 
 // Whether more than f signers are gathered, or one at n or above.
+#[tactic(auto, unfolding(crate::specs::Record::bad_gathered))]
 fn bad_gathered(plan: Plan, s: Station) -> bool
     ensures { result ≡ board.bad_gathered plan s }
 {
@@ -259,6 +268,7 @@ fn bad_gathered(plan: Plan, s: Station) -> bool
 }
 
 // Whether a sound station's record breaks a rule; so it does where the plan is past its limits.
+#[tactic(auto, unfolding(crate::specs::Record::past_limits, crate::specs::Record::bad_station, crate::specs::Record::bad_numbers))]
 pub fn bad_station(plan: Plan, s: Station) -> bool
     ensures { result ≡ (board.past_limits plan || board.bad_station plan s) }
 {
@@ -276,6 +286,7 @@ pub fn bad_station(plan: Plan, s: Station) -> bool
 }
 
 // 10: whether the plan or the board's own record breaks a rule.
+#[tactic(auto, unfolding(crate::specs::Record::bad_board))]
 fn bad_board(plan: Plan, s: Station) -> bool
     ensures { result ≡ board.bad_board plan s }
 {

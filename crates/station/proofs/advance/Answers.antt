@@ -12,8 +12,7 @@ use Rattle.station.specs.Record.{advance_answer, bad_board}
 use Rattle.station.specs.Laws.{sound-small, answered-no, answered-yes}
 use Rattle.setup.specs.declared.Plan.{Plan}
 use Rattle.station.specs.declared.Station.{Station}
-use Rattle.std.proofs.lemmas.Result.{err_from_is_err_and}
-use Rattle.refusal.proofs.Laws.{refused}
+use Rattle.refusal.proofs.Laws.{refused, passed}
 use Rattle.station.proofs.advance.Goals as goal
 
 -- past 10 and 11 every number is within its limit
@@ -46,8 +45,7 @@ returns-in_err-refuses c =
     c.bad_board.ensures
     ∙ c.if-bad_board.false) (leb a.plan.stations
     a.i || c.has.result) c.if-plan-i.false in
-    let p = err_from_is_err_and c.from_residual.result c.from_residual.ensures.1 in
-    rw (p.1, p.2) (answered-no _ _ _ _ _ (rw (
+    rw (passed _ c.from_residual.ensures.1) (answered-no _ _ _ _ _ (rw (
       (sym c.bad_board.ensures
           ∙ c.if-bad_board.false),
       ← c.has.ensures,

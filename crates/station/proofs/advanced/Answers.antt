@@ -3,11 +3,5 @@ use mathlib.Core.Path.{sym, ◌∙◌}
 use Rattle.station.specs.Limits.{steady-is}
 use Rattle.station.proofs.advanced.Goals as goal
 
-pub returns-then-not-steady : goal.returns-then-not-steady
-returns-then-not-steady c = rw (sym c.steady.ensures ∙ c.if-not-steady.true) c.still.ensures
-
 pub invariant_of-moving : goal.invariant_of-moving
 invariant_of-moving c = record { limits = steady-is _ _ _ (sym c.steady.ensures ∙ c.if-not-steady.false) }
-
-pub returns : goal.returns
-returns c = rw (sym c.steady.ensures ∙ c.if-not-steady.false) c.go_on.ensures

@@ -1,14 +1,9 @@
 -- `station::bad_board` answers `bad_board`: the plan's rules, then the record's. Assumes nothing.
 use mathlib.Core.Path.{sym, ◌∙◌}
-use borrow.Author.Tests.{ne_eqb}
-use Rattle.refusal.proofs.Laws.{ok-zero, err-number}
+use Rattle.refusal.proofs.Laws.{ok-zero}
 use Rattle.station.specs.Record.{bad_board}
 use Rattle.station.specs.Laws.{plan-limits}
 use Rattle.station.proofs.bad_board.Goals as goal
-
-pub returns-then-is_err : goal.returns-then-is_err
-unfolding bad_board
-returns-then-is_err c = rw (← c.plan_answer.ensures, ne_eqb _ _ (err-number _ (sym c.if-is_err.ensures.value)))
 
 pub returns : goal.returns
 unfolding bad_board

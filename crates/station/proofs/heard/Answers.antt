@@ -3,11 +3,5 @@ use mathlib.Core.Path.{sym, ◌∙◌}
 use Rattle.station.specs.Limits.{small_is}
 use Rattle.station.proofs.heard.Goals as goal
 
-pub returns-then-not-small : goal.returns-then-not-small
-returns-then-not-small c = rw (sym c.small.ensures ∙ c.if-not-small.true) c.still.ensures
-
 pub invariant_of-limited : goal.invariant_of-limited
 invariant_of-limited c = record { limits = small_is _ _ (sym c.small.ensures ∙ c.if-not-small.false) }
-
-pub returns : goal.returns
-returns c = rw (sym c.small.ensures ∙ c.if-not-small.false) c.gather.ensures
