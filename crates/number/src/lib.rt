@@ -8,6 +8,7 @@ ghost use Rattle.number.specs.Number as form;
 use refusal::Refusal;
 
 // A byte that none follows: 22 for a zero after others, else it ends the number.
+#[tactic(auto, unfolding(crate::specs::Number::ends))]
 fn ends(byte: u64, weight: u64, sum: u64, at: usize) -> Result<(u64, usize), Refusal>
     requires { (byte * weight ≤ 2 ^ 63) × (sum < 2 ^ 63) × (at + 1 < 2 ^ 64) }
     ensures { form.as_number result ≡ form.ends byte weight sum at }
@@ -19,6 +20,7 @@ fn ends(byte: u64, weight: u64, sum: u64, at: usize) -> Result<(u64, usize), Ref
 }
 
 // The tenth byte of a number: 23 where it is above 1.
+#[tactic(auto, unfolding(crate::specs::Number::number_from))]
 fn tenth(bytes: &[u8], at: usize, weight: u64, sum: u64) -> Result<(u64, usize), Refusal>
     requires { (weight ≤ 2 ^ 63) × (sum < weight) }
     ensures { form.as_number result ≡ form.number_from 0 bytes.now at weight sum }

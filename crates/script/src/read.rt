@@ -53,6 +53,7 @@ fn read_numbers(bytes: &[u8], at: usize, count: usize) -> Result<Numbers, Refusa
 }
 
 // n and the seven numbers behind it as a plan.
+#[tactic(auto, unfolding(crate::specs::Read::plan_of))]
 fn plan_of(n: u64, values: [u64; 12]) -> Plan
     ensures { result ≡ form.plan_of n values }
 {
@@ -162,6 +163,7 @@ fn read_send(bytes: &[u8], at: usize) -> Result<EventRead, Refusal>
 
 // Reads an event of a line of so many stations, or the refusal: 1 for a number of stations that no setup has, 21 to 23, or 24
 // for an unknown kind.
+#[tactic(auto, unfolding(crate::specs::Read::read_event, crate::specs::Read::event_from))]
 pub fn read_event(bytes: &[u8], at: usize, stations: u64) -> Result<EventRead, Refusal>
     ensures { form.told_event bytes.now result ≡ form.as_event bytes.now (form.read_event stations bytes.now at) }
 {

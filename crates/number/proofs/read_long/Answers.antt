@@ -1,5 +1,4 @@
--- `number::read_long` answers `read_number`: at the loop's head what is still to be read from the place answers what the
--- whole reading does, and the weights keep every sum within a word. Assumes nothing.
+-- `number::read_long` answers `read_number`: each byte stops the reading, ends it, or it goes on. Assumes nothing.
 use Rattle.std.proofs.Common.{ℕ, ◌+◌, ◌*◌, ◌-◌, ◌%◌, ◌≤◌, ◌<◌, ◌^◌, List, ◌≡◌, refl, sym, ◌∙◌, length, get_or, ltb, true, false, arith, le-leb, lt-ltb, le-ltb, mul-le-mul_right}
 use Rattle.std.proofs.lemmas.Bool.{lt-leb}
 use Rattle.number.specs.Number.{Refused}

@@ -1,5 +1,5 @@
--- `number::read_long` answers `read_number`: at the loop's head what is still to be read from the place answers what the
--- whole reading does, and the weights keep every sum within a word. Assumes nothing.
+-- The loop of `number::read_long`: what is still to be read from the place answers what the whole reading does, and the weights
+-- keep every sum within a word.
 use mathlib.Core.Path.{◌≡◌}
 use Prim.Native.Nat.{◌-◌}
 use Rattle.number.specs.Number.{number_from, read_number}

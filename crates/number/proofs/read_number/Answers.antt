@@ -15,6 +15,3 @@ returns-then-byte-lt128 c =
     let e = c.in-Some.ensures.lookup in
     let b = byte_at _ _ e.0 e.1 in
     ap (λ k. Value k (c.args.at + 1)) (c.from.ensures ∙ sym b) ∙ sym (number_short _ _ (in_bytes _ _ e.0) (rw b c.if-byte-lt128.true))
-
-pub overflow_add-result : goal.overflow_add-result
-overflow_add-result c = omega (arith, in_bytes _ _ c.in-Some.ensures.lookup.0)

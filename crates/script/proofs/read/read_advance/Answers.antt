@@ -1,8 +1,7 @@
 -- `script::read_advance` answers `advance_from`: at each `return` the numbers read so far say how far the reading came. Assumes
 -- nothing.
 use mathlib.Core.Path.{refl, ap, sym, ◌∙◌}
-use Rattle.std.proofs.lemmas.Result.{err_from_is_err_and}
-use Rattle.refusal.proofs.Laws.{refused}
+use Rattle.refusal.proofs.Laws.{refused, passed}
 use Rattle.number.specs.Number.{as_number}
 use Rattle.script.proofs.ReadLaws.{got, lost, advance-refused, advance-stopped, advance-whole, unread-event, whole-event}
 use Rattle.script.proofs.read.read_advance.Goals as goal
@@ -13,8 +12,7 @@ returns-in_default c =
 
 pub returns-in_err-increments : goal.returns-in_err-increments
 returns-in_err-increments c =
-    let p = err_from_is_err_and c.from_residual.result c.from_residual.ensures.1 in
-    rw (p.1, p.2) (unread-event _ _ _ _ _ refl refl
+    rw (passed _ c.from_residual.ensures.1) (unread-event _ _ _ _ _ refl refl
     (advance-stopped _ _ _ _ _ _ (sym c.in-Ok.ensures) (lost _ _ _ _ c.in_err-increments.ensures (refused _))))
 
 pub returns : goal.returns

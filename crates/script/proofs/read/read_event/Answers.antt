@@ -1,7 +1,7 @@
 -- `script::read_event` answers `read_event`: n is asked first, then the kind says which reader goes on. Assumes nothing.
 use Rattle.std.proofs.Common.{arith, ℕ, List, ◌≡◌, refl, false, ap, sym, ◌∙◌, ne_eqb}
 use Rattle.number.specs.Number.{Value, as_number, read_number}
-use Rattle.clock.specs.Tests.{outside, inside}
+use Rattle.clock.specs.Tests.{outside}
 use Rattle.clock.specs.Limits.{max_stations}
 use Rattle.script.specs.Read.{read_event, event_from}
 use Rattle.script.proofs.ReadLaws.{unread-event}
@@ -27,29 +27,6 @@ returns-in_default c = unread-event _ _ _ _ _ refl refl (rw (
   (sym
       c.read_number-answer.ensures ∙ ap as_number c.unwrap_err.ensures),
 ))
-
-pub read_advance-requires : goal.read_advance-requires
-read_advance-requires c = (inside 1 max_stations _ (sym
-    c.outside.ensures
-    ∙ c.if-outside.false)).1
-
-pub returns-in-1 : goal.returns-in-1
-unfolding event_from
-returns-in-1 c =
-    rw (← goes_on _ _ _ _ _ (sym c.outside.ensures ∙ c.if-outside.false) (sym c.in-Ok.ensures), c.in-1.is)
-    c.read_advance.ensures
-
-pub returns-in-2 : goal.returns-in-2
-unfolding event_from
-returns-in-2 c =
-    rw (← goes_on _ _ _ _ _ (sym c.outside.ensures ∙ c.if-outside.false) (sym c.in-Ok.ensures), c.in-2.is)
-    c.read_deliver.ensures
-
-pub returns-in-3 : goal.returns-in-3
-unfolding event_from
-returns-in-3 c =
-    rw (← goes_on _ _ _ _ _ (sym c.outside.ensures ∙ c.if-outside.false) (sym c.in-Ok.ensures), c.in-3.is)
-    c.read_send.ensures
 
 pub returns-in_default-kind : goal.returns-in_default-kind
 unfolding event_from

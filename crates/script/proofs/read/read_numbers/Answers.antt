@@ -1,5 +1,4 @@
--- `script::read_numbers` reads so many numbers: after i turns i of them stand in the array, and the others begin at the place.
--- Assumes nothing.
+-- `script::read_numbers` reads so many numbers, one a turn, or hands on what stops one. Assumes nothing.
 use Rattle.std.proofs.Common.{ℕ, ◌≤◌, ◌<◌, ◌≡◌, length, take, replicate, length-take-le, refl, ap, sym, ◌∙◌, arith}
 use Rattle.number.specs.Number.{as_number}
 use Rattle.script.proofs.ReadLaws.{filled_none, filled_next, filled-stopped, filled-numbers, stopped-numbers}

@@ -1,5 +1,4 @@
--- `script::read_numbers` reads so many numbers: after i turns i of them stand in the array, and the others begin at the place.
--- Assumes nothing.
+-- The loop of `script::read_numbers`: after i turns i numbers stand in the array, and the others begin at the place.
 use Rattle.script.proofs.ReadLaws.{Filled}
 use Rattle.script.proofs.read.read_numbers.Given as goal
 

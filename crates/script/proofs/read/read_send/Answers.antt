@@ -3,8 +3,7 @@ use Prim.Native.Nat.{ℕ}
 use mathlib.Core.List.{List, []}
 use mathlib.Core.Path.{refl, ap, ◌∙◌}
 use lib.ListN.{get_or}
-use Rattle.std.proofs.lemmas.Result.{err_from_is_err_and}
-use Rattle.refusal.proofs.Laws.{refused}
+use Rattle.refusal.proofs.Laws.{refused, passed}
 use Rattle.event.specs.declared.Event.TheVariants.{Send}
 use Rattle.script.specs.Read.{send_from, padded}
 use Rattle.script.proofs.ReadLaws.{got, lost, send-padded, unread-event, whole-event}
@@ -12,8 +11,7 @@ use Rattle.script.proofs.read.read_send.Goals as goal
 
 pub returns-in_err-values : goal.returns-in_err-values
 returns-in_err-values c =
-    let p = err_from_is_err_and c.from_residual.result c.from_residual.ensures.1 in
-    rw (p.1, p.2) (unread-event _ _ _ _ _ refl refl (ap send_from (lost _ _ _ _ c.in_err-values.ensures (refused _))))
+    rw (passed _ c.from_residual.ensures.1) (unread-event _ _ _ _ _ refl refl (ap send_from (lost _ _ _ _ c.in_err-values.ensures (refused _))))
 
 pub returns : goal.returns
 unfolding padded

@@ -1,10 +1,7 @@
 -- `script::read_setup` answers `read_setup`: at each `return` the numbers read so far say how far the reading came. Assumes
 -- nothing.
 use mathlib.Core.Path.{refl, ap, sym, ◌∙◌}
-use Rattle.clock.specs.Tests.{inside}
-use Rattle.clock.specs.Limits.{max_stations}
-use Rattle.std.proofs.lemmas.Result.{err_from_is_err_and}
-use Rattle.refusal.proofs.Laws.{refused}
+use Rattle.refusal.proofs.Laws.{refused, passed}
 use Rattle.number.specs.Number.{as_number}
 use Rattle.script.specs.Read.{plan_of}
 use Rattle.script.proofs.ReadLaws.{got, lost, plan-padded, setup-refused, setup-one, setup-plan, setup-first, setup-whole, unread-setup, whole-setup}
@@ -20,19 +17,14 @@ returns-then-outside c =
 
 pub returns-in_err-named : goal.returns-in_err-named
 returns-in_err-named c =
-    let p = err_from_is_err_and c.from_residual.result c.from_residual.ensures.1 in
-    rw (p.1, p.2) (unread-setup _ _ _ _ _ refl refl
+    rw (passed _ c.from_residual.ensures.1) (unread-setup _ _ _ _ _ refl refl
     (setup-plan _ _ _ _ (sym c.in-Ok.ensures) (sym c.outside.ensures ∙ c.if-outside.false) _
     (lost _ _ _ _ c.in_err-named.ensures (refused _))))
 
-pub read_numbers-requires-2 : goal.read_numbers-requires-2
-read_numbers-requires-2 c = (inside 1 max_stations _ (sym c.outside.ensures ∙ c.if-outside.false)).1
-
 pub returns-in_err-first : goal.returns-in_err-first
 returns-in_err-first c =
-    let p = err_from_is_err_and c.from_residual-in_err-first.result c.from_residual-in_err-first.ensures.1 in
     let a = got _ _ _ _ c.in_ok-named.ensures refl in
-    rw (p.1, p.2) (unread-setup _ _ _ _ _ refl refl
+    rw (passed _ c.from_residual-in_err-first.ensures.1) (unread-setup _ _ _ _ _ refl refl
     (setup-first _ _ _ _ (sym c.in-Ok.ensures) (sym c.outside.ensures ∙ c.if-outside.false) _ _ _ a.is
     (lost _ _ _ _ c.in_err-first.ensures (refused _))))
 
