@@ -27,6 +27,7 @@ fn part(bytes: &[u8], at: usize) -> &[u8]
 
 impl<'a> Reader<'a> {
     // A reader that stands at a place of the lent bytes.
+    #[tactic(auto, unfolding(crate::specs::Reader::reader_at))]
     pub fn at(bytes: &'a [u8], place: usize) -> Reader<'a>
         ensures { result ≡ form.reader_at bytes.entry place }
     {
@@ -41,6 +42,7 @@ impl<'a> Reader<'a> {
     }
 
     // The unread rest: that part of the lent bytes, and no copy.
+    #[tactic(auto, unfolding(crate::specs::Reader::rest_of, crate::specs::Reader::rest_ptr))]
     pub fn rest(self) -> &'a [u8]
         ensures bytes_left { result.now ≡ form.rest_of self.entry }
         ensures address { result.ref_ptr ≡ form.rest_ptr self.entry }
@@ -49,6 +51,7 @@ impl<'a> Reader<'a> {
     }
 
     // Reads a number. It then stands behind it, or at the script's end where it is refused.
+    #[tactic(auto, unfolding(crate::specs::Reader::number_of, crate::specs::Reader::number_at, crate::specs::Reader::as_number, crate::specs::Reader::after_number, crate::specs::Reader::stands_at))]
     pub fn number(&mut self) -> Result<u64, Refusal>
         ensures value { form.told_number self.new.place result ≡ form.number_of self.old }
         ensures reader_after { self.new ≡ form.after_number self.old }
@@ -63,6 +66,7 @@ impl<'a> Reader<'a> {
     }
 
     // Reads an event of a line of so many stations.
+    #[tactic(auto, unfolding(crate::specs::Reader::event_of, crate::specs::Reader::after_event, crate::specs::Reader::stands_at, script::specs::Read::none_read))]
     pub fn event(&mut self, stations: u64) -> Result<EventRead, Refusal>
         ensures value { script.told_event self.old.bytes.now result ≡ form.event_of stations self.old }
         ensures reader_after { self.new ≡ form.after_event stations self.old }
@@ -76,6 +80,7 @@ impl<'a> Reader<'a> {
     }
 
     // Reads the setup.
+    #[tactic(auto, unfolding(crate::specs::Reader::setup_of, crate::specs::Reader::after_setup, crate::specs::Reader::stands_at, script::specs::Read::unread))]
     pub fn setup(&mut self) -> Result<SetupRead, Refusal>
         ensures value { script.told_setup self.old.bytes.now result ≡ form.setup_of self.old }
         ensures reader_after { self.new ≡ form.after_setup self.old }
@@ -90,6 +95,7 @@ impl<'a> Reader<'a> {
 }
 
 // Reads the event at a place by a reader that stands there.
+#[tactic(auto, unfolding(crate::specs::Reader::reader_at))]
 pub fn event_at(bytes: &[u8], place: usize, stations: u64) -> Result<EventRead, Refusal>
     ensures { script.told_event bytes.entry.now result ≡ form.event_of stations (form.reader_at bytes.entry place) }
 {

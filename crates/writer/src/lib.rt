@@ -58,6 +58,7 @@ fn put_number(v: u64, out: &mut [u8], at: usize) -> usize
 }
 
 // How many bytes the numbers take.
+#[tactic(auto, unfolding(number::specs::Number::bytes_of))]
 fn width(numbers: &[u64]) -> usize
     ensures { result ≡ length (number.bytes_of numbers.now) }
 {
@@ -140,6 +141,7 @@ pub fn write_setup(plan: Plan, first: &[u64], out: &mut [u8], at: usize) -> Resu
 }
 
 // What refuses an event of a line: 1 to 7 where its plan does not pass, then 11 where it is barred.
+#[tactic(auto, unfolding(crate::specs::Write::event_answer))]
 fn event_answer(plan: Plan, event: Event, increments: &[u64]) -> Result<(), Refusal>
     ensures { given.answer result ≡ writer.event_answer plan event increments.now }
 {

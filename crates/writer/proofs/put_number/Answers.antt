@@ -1,5 +1,4 @@
--- `writer::put_number` writes the bytes of a number: what lies there, with the groups of the rest behind it, is the number's
--- bytes. The rest falls, and is its own measure. Assumes nothing.
+-- `writer::put_number` writes the bytes of a number, a group a turn. Assumes nothing.
 use Rattle.writer.specs.Laws.{putting-start, putting-fits, putting-next, putting-end}
 use Rattle.writer.proofs.put_number.Goals as goal
 

@@ -1,5 +1,5 @@
--- `writer::put_number` writes the bytes of a number: what lies there, with the groups of the rest behind it, is the number's
--- bytes. The rest falls, and is its own measure. Assumes nothing.
+-- The loop of `writer::put_number`: what lies there, with the groups of the rest behind it, is the number's bytes. The rest falls,
+-- and is its own measure.
 use Rattle.writer.specs.Laws.{Putting}
 use Rattle.writer.proofs.put_number.Given as goal
 

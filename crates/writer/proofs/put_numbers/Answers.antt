@@ -1,10 +1,9 @@
--- `writer::put_numbers` lays the bytes of a row down: after i turns those of the first i numbers. Assumes nothing.
+-- `writer::put_numbers` lays the bytes of a row down, each number behind the last. Assumes nothing.
 use Prim.Native.Nat.{ℕ, ◌+◌, ◌≤◌, ◌<◌}
 use mathlib.Core.List.{List}
 use mathlib.Core.Path.{◌≡◌, refl, sym, ◌∙◌, ap, ap₂}
 use native.Mathlib.Numerals.{add-one}
 use lib.ListN.{length, take, get_or, length-append}
-use lib.Seq.{take-length}
 use Rattle.number.specs.Number.{number_bytes, bytes_of, laid}
 use Rattle.number.proofs.Laws.{laid_none, laid_on, length-laid}
 use Rattle.writer.specs.Laws.{bytes-more, bytes-part}
@@ -40,12 +39,6 @@ module _ (vs out₀ : List ℕ) (at i : ℕ) (out : List ℕ) (place : ℕ) (p :
           same = same;
         }
 
-done : {vs out₀ : List ℕ} {at i : ℕ} {out : List ℕ} {place : ℕ} → Put vs out₀ at i out place → i ≡ length vs
-    → (place ≡ at + length (bytes_of vs)) × (out ≡ laid out₀ at (bytes_of vs))
-done {vs} {i = i} p e =
-    let all : take i vs ≡ vs = rw e (take-length vs) in
-    (rw all at p.next, rw all at p.same)
-
 pub loop-v-init : goal.loop-v-init
 loop-v-init c = start _ _ _
 
@@ -55,8 +48,3 @@ put_number-place-requires c = fits _ _ _ _ _ _ c.loop-v.invariant (omega arith) 
 pub loop-v-preserved : goal.loop-v-preserved
 loop-v-preserved c =
     turn _ _ _ _ _ _ c.loop-v.invariant (omega arith) c.requires c.put_number-place.ensures.value c.put_number-place.ensures.out_after
-
-pub returns : goal.returns
-returns c =
-    let d = done c.loop-v.invariant (omega arith) in
-    record { value = d.0; out_after = d.1 }

@@ -1,4 +1,4 @@
--- `writer::put_numbers` lays the bytes of a row down: after i turns those of the first i numbers. Assumes nothing.
+-- The loop of `writer::put_numbers`: after i turns the bytes of the first i numbers lie there.
 use Prim.Native.Nat.{ℕ, ◌+◌}
 use mathlib.Core.List.{List}
 use mathlib.Core.Path.{◌≡◌}

@@ -1,4 +1,4 @@
--- `writer::width` adds up the lengths: after i turns those of the first i numbers, each at most 10. Assumes nothing.
+-- The loop of `writer::width`: after i turns the sum is the length of the bytes of the first i numbers, at most 10 each.
 use Prim.Native.Nat.{◌*◌, ◌≤◌}
 use mathlib.Core.Path.{◌≡◌}
 use lib.ListN.{length, take}

@@ -1,17 +1,15 @@
 -- `writer::write_event` writes an event that is not barred as its numbers, kind by kind, and else answers its number. Assumes
 -- nothing.
 use mathlib.Core.Path.{refl}
-use Rattle.std.proofs.lemmas.Result.{err_from_is_err_and}
-use Rattle.refusal.proofs.Laws.{refused}
+use Rattle.refusal.proofs.Laws.{refused, passed}
 use Rattle.script.specs.Write.{event_numbers}
 use Rattle.writer.specs.Laws.{refused-writes, accepted-writes}
 use Rattle.writer.proofs.write_event.Goals as goal
 
 pub returns-in_err-event_answer : goal.returns-in_err-event_answer
 returns-in_err-event_answer c =
-    let p = err_from_is_err_and c.from_residual.result c.from_residual.ensures.1 in
     let w = refused-writes _ _ _ _ _ c.in_err-event_answer.ensures (refused _) in
-    rw (p.1, p.2) (record { value = w.0; out_after = w.1 })
+    rw (passed _ c.from_residual.ensures.1) (record { value = w.0; out_after = w.1 })
 
 pub returns-in-Advance : goal.returns-in-Advance
 unfolding event_numbers

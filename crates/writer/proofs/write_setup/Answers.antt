@@ -2,15 +2,13 @@
 use mathlib.Core.Path.{refl}
 use Rattle.script.specs.Write.{setup_numbers}
 use Rattle.writer.specs.Laws.{refused-writes, accepted-writes}
-use Rattle.std.proofs.lemmas.Result.{err_from_is_err_and}
-use Rattle.refusal.proofs.Laws.{refused}
+use Rattle.refusal.proofs.Laws.{refused, passed}
 use Rattle.writer.proofs.write_setup.Goals as goal
 
 pub returns-in_err-answer : goal.returns-in_err-answer
 returns-in_err-answer c =
-    let p = err_from_is_err_and c.from_residual.result c.from_residual.ensures.1 in
     let w = refused-writes _ _ _ _ _ c.in_err-answer.ensures (refused _) in
-    rw (p.1, p.2) (record { value = w.0; out_after = w.1 })
+    rw (passed _ c.from_residual.ensures.1) (record { value = w.0; out_after = w.1 })
 
 pub returns : goal.returns
 unfolding setup_numbers
