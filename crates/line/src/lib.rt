@@ -59,6 +59,7 @@ pub fn no_station() -> Station
 }
 
 // Each station in its place, in round 0 at its first reading, nothing signed.
+#[tactic(auto, unfolding(crate::specs::Fresh::seated_to))]
 fn seat(first: &[u64]) -> [Station; 12]
     requires { length first.now ≤ 12 }
     ensures { result ≡ begin.seated_to first.now (length first.now) }
@@ -101,6 +102,7 @@ fn station_at(l: Line, i: u64) -> Station
 }
 
 // A station of any record's run; one with nothing in it where the line has more than twelve.
+#[tactic(auto, unfolding(crate::specs::Held::station_of))]
 pub fn station(l: Line, i: u64) -> Station
     ensures { result ≡ held.station_of l i }
 {
@@ -111,6 +113,7 @@ pub fn station(l: Line, i: u64) -> Station
 }
 
 // Whether a station of the line is not marked faulty.
+#[tactic(auto, unfolding(model::specs::Run::sound))]
 pub fn sound(plan: Plan, i: u64) -> bool
     ensures { result ≡ run.sound plan i }
 {
@@ -118,6 +121,7 @@ pub fn sound(plan: Plan, i: u64) -> bool
 }
 
 // Whether one of a faulty station's fields is not zero.
+#[tactic(auto, unfolding(model::specs::Record::bad_faulty))]
 fn bad_faulty(s: Station) -> bool
     ensures { result ≡ rule.bad_faulty s }
 {
@@ -132,6 +136,7 @@ pub struct Shown {
 }
 
 // Whether station i's record breaks its rules.
+#[tactic(auto, unfolding(model::specs::Record::bad_station_at, crate::specs::Held::run_of, station::specs::Record::past_limits))]
 fn bad_station_at(l: Line, i: u64) -> bool
     requires { Planned l.plan }
     ensures { result ≡ rule.bad_station_at (held.run_of l []) i }
@@ -152,6 +157,7 @@ fn some_bad_station(l: Line) -> bool
 }
 
 // Whether a message's round, kind or mask of signers breaks its rule.
+#[tactic(auto, unfolding(model::specs::Record::bad_content))]
 fn bad_content(plan: Plan, m: Message) -> bool
     ensures { result ≡ rule.bad_content plan m }
 {
@@ -162,6 +168,7 @@ fn bad_content(plan: Plan, m: Message) -> bool
 }
 
 // Whether a message's ends or its time break their rule.
+#[tactic(auto, unfolding(model::specs::Record::bad_way, crate::specs::Held::run_of))]
 fn bad_way(l: Line, m: Message) -> bool
     ensures { result ≡ rule.bad_way (held.run_of l []) m }
 {
@@ -172,6 +179,7 @@ fn bad_way(l: Line, m: Message) -> bool
 }
 
 // Whether a ready's round is above its sender's last signed, or a relay's above its sender's own.
+#[tactic(auto, unfolding(model::specs::Record::bad_round, crate::specs::Held::run_of))]
 fn bad_round(l: Line, m: Message) -> bool
     ensures { result ≡ rule.bad_round (held.run_of l []) m }
 {
@@ -183,6 +191,7 @@ fn bad_round(l: Line, m: Message) -> bool
 }
 
 // Whether a message in flight breaks a rule.
+#[tactic(auto, unfolding(model::specs::Record::bad_message, crate::specs::Held::run_of))]
 fn bad_message(l: Line, m: Message) -> bool
     ensures { result ≡ rule.bad_message (held.run_of l []) m }
 {
@@ -263,6 +272,7 @@ pub fn lead(l: Line, words: &[u64], a: u64, b: u64) -> Result<i64, Refusal>
 }
 
 // The number of messages in flight.
+#[tactic(auto, unfolding(crate::specs::Question::in_flight))]
 pub fn in_flight(l: Line, words: &[u64]) -> Result<u64, Refusal>
     ensures { question.as_in_flight result ≡ question.in_flight l words.now }
 {

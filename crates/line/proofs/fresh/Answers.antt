@@ -1,14 +1,12 @@
 -- `line::fresh` answers `begun`: the setup's number and no run, or the run at its beginning. Assumes nothing.
 use Rattle.std.specs.Prelude.{refl}
-use Rattle.std.proofs.lemmas.Result.{err_from_is_err_and}
-use Rattle.refusal.proofs.Laws.{refused}
+use Rattle.refusal.proofs.Laws.{refused, passed}
 use Rattle.line.specs.Fresh.{begun-no, begun-few, begun-yes}
 use Rattle.line.proofs.fresh.Goals as goal
 
 pub returns-in_err-answer : goal.returns-in_err-answer
 returns-in_err-answer c =
-    let p = err_from_is_err_and c.from_residual.result c.from_residual.ensures.1 in
-    rw (p.1, p.2) (begun-no _ _ _ c.in_err-answer.ensures _ (refused _) refl)
+    rw (passed _ c.from_residual.ensures.1) (begun-no _ _ _ c.in_err-answer.ensures _ (refused _) refl)
 
 pub seat-requires : goal.seat-requires
 seat-requires c = begun-few _ _ _ c.in_ok-answer.ensures refl

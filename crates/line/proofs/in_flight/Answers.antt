@@ -5,10 +5,6 @@ use Rattle.line.specs.Held.{run_of}
 use Rattle.line.specs.Question.{in_flight}
 use Rattle.line.proofs.in_flight.Goals as goal
 
-pub returns-then-bad_line : goal.returns-then-bad_line
-unfolding in_flight
-returns-then-bad_line c = rw (sym c.bad_line.ensures ∙ c.if-bad_line.true)
-
 pub returns : goal.returns
 unfolding in_flight run_of
 returns c = rw (sym c.bad_line.ensures ∙ c.if-bad_line.false) (λ i. record {
