@@ -185,6 +185,7 @@ fn told_line(word: &[u8], number: u64, out: &mut [u8], at: usize) -> usize
 }
 
 // `setup` and its answer.
+#[tactic(auto, unfolding(crate::specs::Text::setup_line))]
 pub fn setup_line(answer: u64, out: &mut [u8], at: usize) -> usize
     ensures value { result ≡ text.behind (text.roomy out.old at) at (text.setup_line answer) }
     ensures out_after { out.new ≡ text.printed (text.roomy out.old at) out.old at (text.setup_line answer) }
@@ -193,6 +194,7 @@ pub fn setup_line(answer: u64, out: &mut [u8], at: usize) -> usize
 }
 
 // `script` and the number.
+#[tactic(auto, unfolding(crate::specs::Text::script_line))]
 pub fn script_line(number: u64, out: &mut [u8], at: usize) -> usize
     ensures value { result ≡ text.behind (text.roomy out.old at) at (text.script_line number) }
     ensures out_after { out.new ≡ text.printed (text.roomy out.old at) out.old at (text.script_line number) }

@@ -1,4 +1,4 @@
--- `text::put_long` spells a number from its last digit on: each turn lays one more digit in front. Assumes nothing.
+-- The loop of `text::put_long`: the digits behind place i are laid, and the rest is to be spelt in front of them.
 use mathlib.Core.Path.{◌≡◌}
 use Rattle.text.specs.Text.{places}
 use Rattle.text.proofs.Laws.{Spelt}

@@ -1,4 +1,4 @@
--- `text::put_rounds` lays the rounds one behind the other: after i turns those of the first i stations. Assumes nothing.
+-- `text::put_rounds` lays the rounds one behind the other, at most 21 bytes each. Assumes nothing.
 use Rattle.std.proofs.Common.{ℕ, [], refl, ◌∙◌, arith}
 use Rattle.line.specs.Held.{run_of}
 use Rattle.text.proofs.Laws.{rounds-start, rounds-next, round-shown}

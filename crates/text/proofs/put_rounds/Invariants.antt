@@ -1,4 +1,4 @@
--- `text::put_rounds` lays the rounds one behind the other: after i turns those of the first i stations. Assumes nothing.
+-- The loop of `text::put_rounds`: after i turns the rounds of the first i stations lie there.
 use mathlib.Core.List.{[]}
 use Prim.Native.Nat.{◌*◌, ◌-◌}
 use Rattle.line.specs.Held.{run_of}

@@ -3,7 +3,6 @@ use Rattle.std.proofs.Common.{ℕ, ◌+◌, ◌∙◌, ◌≡◌, ap, sym, arith
 use Rattle.number.specs.Number.{laid}
 use Rattle.number.proofs.Laws.{laid_none}
 use Rattle.text.proofs.Laws.{laid_one, laid_both}
-use Rattle.std.proofs.lemmas.List.{take_all}
 use Rattle.text.proofs.put_word.Goals as goal
 
 pub loop-i-init : goal.loop-i-init
@@ -17,7 +16,3 @@ loop-i-preserved c =
     let one = laid_one c.loop-i.out (a.at + i) (get_or a.word.now i 0) (omega (arith, c.requires)) in
     let both = laid_both a.out.now a.at (take i a.word.now) _ (omega (arith, few, c.requires)) c.loop-i.invariant (omega (arith, few)) one in
     both ∙ ap (laid a.out.now a.at) (sym (ap (λ (k : ℕ). take k a.word.now) (add-one i) ∙ take-suc a.word.now i 0 (omega arith)))
-
-pub returns-clause-out_after : goal.returns-clause-out_after
-returns-clause-out_after c =
-    c.loop-i.invariant ∙ ap (laid c.args.out.now c.args.at) (take_all c.loop-i.i c.args.word.now c.loop-i-test.false)

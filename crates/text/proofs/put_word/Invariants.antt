@@ -1,4 +1,4 @@
--- `text::put_word` lays the bytes one behind the other. Assumes nothing.
+-- The loop of `text::put_word`: after i turns the first i bytes lie there.
 use Rattle.std.proofs.Common.{◌≡◌, take}
 use Rattle.number.specs.Number.{laid}
 use Rattle.text.proofs.put_word.Given as goal

@@ -1,38 +1,41 @@
 -- `text::told_line` lays the word, the number and the line's end one behind the other, where there is room. Assumes nothing.
-use mathlib.Core.Path.{refl, sym, ◌∙◌}
-use native.Mathlib.Omega.{arith}
-use Rattle.text.specs.Text.{single, told}
-use Rattle.text.proofs.Laws.{written_none, written-more, written-spaced}
+use Rattle.std.proofs.Common.{ℕ, ◌+◌, ◌≤◌, List, ◌++◌, length, ◌≡◌, true, sym, ◌∙◌, arith}
+use Rattle.number.specs.Number.{laid}
+use Rattle.text.specs.Text.{places, single, spaced, roomy, told}
+use Rattle.text.proofs.Laws.{Written, written_none, written-more, written-spaced}
 use Rattle.text.proofs.Room.{roomy-has}
 use Rattle.text.proofs.told_line.Goals as goal
 
-pub returns-then-not-roomy : goal.returns-then-not-roomy
-returns-then-not-roomy c = let no = sym c.roomy.ensures ∙ c.if-not-roomy.true in rw no record { value = refl; out_after = refl }
+-- behind the word, and behind the number
+module _ (word : List ℕ) {out w : List ℕ} {at next : ℕ} (yes : roomy out at ≡ true) (few : length word ≤ 6) (e : next ≡ at + length word) (f : w ≡ laid out at word) where
+  with-word : Written out at word 314 w next
+  with-word = written-more (written_none out at 320 (roomy-has _ _ yes)) word 314 (omega arith) e f
+
+  with-number : (x : ℕ) {v : List ℕ} {n : ℕ} → n ≡ next + (places x + 1) → v ≡ laid w next (spaced x)
+      → Written out at (word ++ spaced x) 293 v n
+  with-number x = written-spaced with-word x 293 (omega arith)
 
 pub put_word-next-requires : goal.put_word-next-requires
 put_word-next-requires c = omega (arith, roomy-has _ _ (sym c.roomy.ensures ∙ c.if-not-roomy.false), c.requires)
 
 pub put_spaced-next-requires : goal.put_spaced-next-requires
 put_spaced-next-requires c =
-    let a = c.args in
-    let yes = sym c.roomy.ensures ∙ c.if-not-roomy.false in
-    let w₁ = written-more (written_none a.out.now a.at 320 (roomy-has _ _ yes)) a.word.now 314 (omega (arith, c.requires)) c.put_word-next.ensures.value c.put_word-next.ensures.out_after in
-    omega (arith, w₁.room)
+    let w = with-word _ (sym c.roomy.ensures ∙ c.if-not-roomy.false) c.requires c.put_word-next.ensures.value c.put_word-next.ensures.out_after in
+    omega (arith, w.room)
 
 pub put_byte-requires : goal.put_byte-requires
 put_byte-requires c =
-    let a = c.args in
-    let yes = sym c.roomy.ensures ∙ c.if-not-roomy.false in
-    let w₁ = written-more (written_none a.out.now a.at 320 (roomy-has _ _ yes)) a.word.now 314 (omega (arith, c.requires)) c.put_word-next.ensures.value c.put_word-next.ensures.out_after in
-    let w₂ = written-spaced w₁ a.number 293 (omega arith) c.put_spaced-next.ensures.value c.put_spaced-next.ensures.out_after in
-    omega (arith, w₂.room)
+    let w =
+    with-number _ (sym c.roomy.ensures ∙ c.if-not-roomy.false) c.requires c.put_word-next.ensures.value c.put_word-next.ensures.out_after
+    c.args.number c.put_spaced-next.ensures.value c.put_spaced-next.ensures.out_after in
+    omega (arith, w.room)
 
 pub returns : goal.returns
 unfolding told
 returns c =
-    let a = c.args in
     let yes = sym c.roomy.ensures ∙ c.if-not-roomy.false in
-    let w₁ = written-more (written_none a.out.now a.at 320 (roomy-has _ _ yes)) a.word.now 314 (omega (arith, c.requires)) c.put_word-next.ensures.value c.put_word-next.ensures.out_after in
-    let w₂ = written-spaced w₁ a.number 293 (omega arith) c.put_spaced-next.ensures.value c.put_spaced-next.ensures.out_after in
-    let w₃ = written-more w₂ (single 10) 292 (omega arith) c.put_byte.ensures.value c.put_byte.ensures.out_after in
-    rw yes record { value = w₃.place; out_after = w₃.same }
+    let w =
+    with-number _ yes c.requires c.put_word-next.ensures.value c.put_word-next.ensures.out_after
+    c.args.number c.put_spaced-next.ensures.value c.put_spaced-next.ensures.out_after in
+    let all = written-more w (single 10) 292 (omega arith) c.put_byte.ensures.value c.put_byte.ensures.out_after in
+    rw yes record { value = all.place; out_after = all.same }
