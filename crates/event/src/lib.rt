@@ -10,7 +10,7 @@ ghost use Rattle.event.specs.Event as rule;
 pub enum Event {
     // By d.
     Advance(u64),
-    // A message, named by sender, recipient, round and kind (ready 0, relay 1). The kind is a number, since 11 answers any above 1.
+    // A message, named by sender, recipient, round and kind (ready 0, relay 1). The kind is a number, since 11 (`barred`) answers any above 1.
     Deliver {
         sender: u64,
         recipient: u64,

@@ -1,5 +1,5 @@
 // What one pass over the messages on their way notes: where each lies, whether one is overdue, and whether two agree in all
-// four names.
+// four names. Words and count come apart, as in `flight`.
 #![tactic(auto)]
 
 ghost use Rattle.std.specs.Prelude.{◌≡◌, ◌&&◌, not, ◌*◌, ◌-◌, ◌≤◌, min, ltb, eqb, length, set};

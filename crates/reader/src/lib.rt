@@ -79,7 +79,7 @@ impl<'a> Reader<'a> {
         read
     }
 
-    // Reads the setup.
+    // Reads the setup. As in `event` the reader then goes on: one function for both would take the reading as a closure.
     #[tactic(auto, unfolding(crate::specs::Reader::setup_of, crate::specs::Reader::after_setup, crate::specs::Reader::stands_at, script::specs::Read::unread))]
     pub fn setup(&mut self) -> Result<SetupRead, Refusal>
         ensures value { script.told_setup self.old.bytes.now result ≡ form.setup_of self.old }

@@ -152,7 +152,7 @@ fn read_asked(numbers: &mut Reader) -> Result<Asked, Refusal> {
 
 // ---- a record
 
-// A record as it was read: of the places those are filled that `length` and `count` give, as far as there are places.
+// A record as it was read: of the places, whose memory is fixed, those are filled that `length` and `count` give, as far as there are any.
 #[derive(Clone, Copy)]
 struct Sheet {
     plan: Plan,

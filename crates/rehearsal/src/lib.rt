@@ -31,7 +31,7 @@ fn unread(refusal: Refusal, end: usize, out: &mut [u8]) -> Part
     ensures out_after { out.new ≡ begin.open_out (begin.stopped (given.number refusal) end) out.old }
 {
     let place = match refusal {
-        Refusal::Stations => text::setup_line(1, out, 0),
+        Refusal::Stations => text::setup_line(refusal.number(), out, 0),
         _ => text::script_line(refusal.number(), out, 0),
     };
     ended(refusal, end, place)
@@ -44,7 +44,7 @@ pub fn open(bytes: &[u8], out: &mut [u8]) -> Part
     ensures out_after { out.new ≡ begin.open_out (begin.opening bytes.now) out.old }
 {
     if bytes.len() as u64 > MAX_SCRIPT {
-        let place = text::script_line(26, out, 0);
+        let place = text::script_line(Refusal::Long.number(), out, 0);
         return ended(Refusal::Long, bytes.len(), place);
     }
     let read = match script::read_setup(bytes, 0) {

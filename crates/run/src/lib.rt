@@ -159,12 +159,6 @@ fn deliver(
         return Err(Refusal::Full);
     }
     let left = take_out(words, rest.count, at, places);
-    if quiet(o) {
-        return Ok(Heard {
-            station: o.station,
-            count: left,
-        });
-    }
     let rest = Rest {
         count: left,
         ..rest
@@ -228,12 +222,6 @@ fn send(
     let o = station::heard(rest.plan, round, signers, s);
     if MAX_FLIGHT < rest.count + count_sent(rest.plan, recipient, o) {
         return Err(Refusal::Full);
-    }
-    if quiet(o) {
-        return Ok(Heard {
-            station: o.station,
-            count: rest.count,
-        });
     }
     let count = tell_noted(rest, words, recipient, s.round + 1, o, places);
     Ok(Heard {
@@ -304,7 +292,8 @@ fn seat(mut l: Line, i: u64, h: Heard) -> Line
 }
 
 // ---- advancing
-// That the record is valid (`Held`) is said in each contract: it is of the run by value and of the words that are lent beside it.
+// That the record is valid (`Held`) and that the increments fit it (`Going`) is said in each contract: both are of the run by value
+// and of what is lent beside it, so a type would have to hold lent words that change.
 
 // Which of 12, 13 and 14 an increment meets; 14 only where it does not meet 12.
 #[derive(Clone, Copy)]

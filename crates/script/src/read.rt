@@ -8,7 +8,7 @@ use number::read_number;
 use refusal::Refusal;
 use setup::Plan;
 
-// Numbers that were read one behind the other, and the place behind them.
+// Numbers that were read one behind the other, in fixed memory, and the place behind them.
 #[derive(Clone, Copy)]
 struct Numbers {
     values: [u64; 12],
@@ -125,7 +125,8 @@ fn read_advance(bytes: &[u8], at: usize, stations: usize) -> Result<EventRead, R
     })
 }
 
-// Reads what stands behind kind 2: sender, recipient, round, message kind. One function for kinds 2 and 3 would test the kind again.
+// Reads what stands behind kind 2: sender, recipient, round, message kind. One function for kinds 2 and 3 would test the kind
+// again.
 fn read_deliver(bytes: &[u8], at: usize) -> Result<EventRead, Refusal>
     ensures { form.told_event bytes.now result ≡ form.as_event bytes.now (form.deliver_from (form.read_many 4 bytes.now at)) }
 {

@@ -3,29 +3,20 @@
 
 use clock::Moment;
 use event::Event;
-use line::{Line, Rest};
 use refusal::Refusal;
 use setup::Plan;
 use std::io;
 use table::{Seats, Turned};
 
-// The run as its line shows it.
-fn line_of(rest: Rest, seats: Seats) -> Line {
-    let stations = seats.places;
-    Line {
-        plan: rest.plan,
-        time: rest.time,
-        length: seats.length as u64,
-        stations,
-        count: rest.count,
-    }
-}
-
 // Event number, answer, real time and the round of each station.
 fn show(rt: &impl Print, number: u64, answer: u64, turned: Turned) -> io::Result<()> {
     let mut end = [0u8; 320];
     let mut out = [0u8; 320];
-    let long = text::line_end(line_of(turned.rest, turned.seats), &mut end);
+    let Turned { rest, seats } = turned;
+    let Some(stations) = seats.places.get(..seats.length) else {
+        return Ok(());
+    };
+    let long = text::line_end(seating::load(rest, stations), &mut end);
     let Some(end) = end.get(..long) else {
         return Ok(());
     };

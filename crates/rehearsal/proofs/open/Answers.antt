@@ -13,8 +13,8 @@ pub returns-then-bytes-gt-MAX_SCRIPT : goal.returns-then-bytes-gt-MAX_SCRIPT
 returns-then-bytes-gt-MAX_SCRIPT c =
     let a = c.args in
     let is =
-    open_is a.bytes.now a.out.now _ (opening-long a.bytes.now (omega arith)) _ _ (c.ended.ensures ∙ rw c.script_line-place.ensures.value refl)
-    c.script_line-place.ensures.out_after in
+    open_is a.bytes.now a.out.now _ (opening-long a.bytes.now (omega arith)) _ _ (c.ended.ensures ∙ rw (c.script_line-place.ensures.value, c.number.ensures) refl)
+    (rw c.number.ensures at c.script_line-place.ensures.out_after) in
     record { value = is.0; out_after = is.1 }
 
 pub returns-in-Err : goal.returns-in-Err
@@ -57,6 +57,6 @@ returns-in-Err-fresh c =
     let a = c.args in
     let is = open_is a.bytes.now a.out.now _
     (opening-begins a.bytes.now (omega arith) _ c.in-Ok.ensures (λ z. omega (arith, z)) refl _ c.in-Err-fresh.ensures) _ _
-    (c.ended-in-Err-fresh.ensures ∙ rw (c.setup_line-place.ensures.value, c.number.ensures) refl)
-    (rw c.number.ensures at c.setup_line-place.ensures.out_after) in
+    (c.ended-in-Err-fresh.ensures ∙ rw (c.setup_line-place.ensures.value, c.number-in-Err-fresh.ensures) refl)
+    (rw c.number-in-Err-fresh.ensures at c.setup_line-place.ensures.out_after) in
     record { value = is.0; out_after = is.1 }

@@ -1,6 +1,6 @@
 -- `rehearsal::unread` answers `stopped`: 1 has one name, and every other refusal is the script's. Assumes nothing.
 use Rattle.std.proofs.Common.{ℕ, List, ◌≡◌, refl, ap, ◌∙◌}
-use borrow.Author.Tests.{ne_eqb}
+use borrow.Author.Tests.{eq-eqb, ne_eqb}
 use lib.Dec.{eqb}
 use Rattle.clock.specs.Pick.{pick}
 use Rattle.refusal.specs.declared.Refusal.TheVariants.{Stations}
@@ -23,12 +23,12 @@ returns c =
     elim c.match-refusal.branch [
       | in-Stations w ↦
           let k = ap number w.in-Stations.is in
-          let is = made (number a.refusal) a.end a.out.now (setup_line 1) c.match-refusal.place c.match-refusal.out (rw k refl)
-          (w.place-is ∙ w.setup_line-place.ensures.value) (w.out-is ∙ w.setup_line-place.ensures.out_after) in
+          let is = made (number a.refusal) a.end a.out.now (setup_line (number a.refusal)) c.match-refusal.place c.match-refusal.out (rw (eq-eqb _ 1 k) refl)
+          (w.place-is ∙ rw w.number.ensures at w.setup_line-place.ensures.value) (w.out-is ∙ rw w.number.ensures at w.setup_line-place.ensures.out_after) in
           record { value = c.ended.ensures ∙ is.0; out_after = is.1 }
       | in_default w ↦
           let other = ne_eqb (number a.refusal) 1 (λ e. w.in_default.not-Stations (number-one a.refusal Stations e)) in
           let is = made (number a.refusal) a.end a.out.now (script_line (number a.refusal)) c.match-refusal.place c.match-refusal.out (rw other refl)
-          (w.place-is ∙ rw w.number.ensures at w.script_line-place.ensures.value) (w.out-is ∙ rw w.number.ensures at w.script_line-place.ensures.out_after) in
+          (w.place-is ∙ rw w.number-in_default.ensures at w.script_line-place.ensures.value) (w.out-is ∙ rw w.number-in_default.ensures at w.script_line-place.ensures.out_after) in
           record { value = c.ended.ensures ∙ is.0; out_after = is.1 }
     ]

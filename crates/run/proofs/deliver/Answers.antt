@@ -1,7 +1,7 @@
 -- `run::deliver` comes to the deliver's table and effect: 16, then 19, else the message leaves the flight, its recipient takes its
 -- new place and what it sends follows. Assumes nothing.
-use Rattle.std.proofs.Common.{◌+◌, refl, sym, ◌∙◌, arith, rules}
-use Rattle.run.specs.Sends.{Room, sent-few, sends_none}
+use Rattle.std.proofs.Common.{◌+◌, refl, arith, rules}
+use Rattle.run.specs.Sends.{Room, sent-few}
 use Rattle.run.specs.Hearing.{stands-found, lies-limits}
 use Rattle.run.proofs.Hearing.{does-none, does-below, does-full, does-room, does-comes}
 use Rattle.run.proofs.deliver.Goals as goal
@@ -43,12 +43,6 @@ room c =
       fits = limits.2;
       room = does-room a.rest.plan a.rest.time a.rest.count a.s a.words.now a.names _ (stands-found c.requires _ _ c.in-Some.ensures.found) (λ e. omega (arith, c.in-Some.ensures.within, e)) _ c.message_at-m.ensures _ c.heard-o.ensures (omega arith) _ _ c.take_out-left.ensures.value c.take_out-left.ensures.words_after c.requires;
     }
-
-pub returns-then-quiet : goal.returns-then-quiet
-returns-then-quiet c =
-    let a = c.args in
-    let none = sends_none a.rest.plan a.rest.time.0 a.names.recipient (a.s.round + 1) _ _ _ (room (goal.at.returns-then-quiet c).After-take_out-left) (sym c.quiet.ensures ∙ c.if-quiet.true) in
-    does-comes a.rest.plan a.rest.time a.rest.count a.s a.words.now a.names _ (stands-found c.requires _ _ c.in-Some.ensures.found) (λ e. omega (arith, c.in-Some.ensures.within, e)) _ c.message_at-m.ensures _ c.heard-o.ensures (omega arith) _ _ c.take_out-left.ensures.value c.take_out-left.ensures.words_after (λ j. search rules) _ _ none.0 none.1
 
 pub overflow_add-s : goal.overflow_add-s
 overflow_add-s c = omega (arith, (lies-limits c.requires.lies).1)

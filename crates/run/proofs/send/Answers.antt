@@ -1,10 +1,9 @@
 -- `run::send` comes to the faulty send's table and effect: 17, 18, then 19, else its recipient takes its new place and what it
 -- sends follows. Assumes nothing.
-use Prim.Native.Nat.{◌+◌}
 use mathlib.Core.Path.{sym, ◌∙◌}
 use native.Mathlib.Omega.{arith}
 use Rattle.run.specs.Limits.{held-settled}
-use Rattle.run.specs.Sends.{sent-few, sends_none}
+use Rattle.run.specs.Sends.{sent-few}
 use Rattle.run.specs.Hearing.{lies-limits}
 use Rattle.run.proofs.Hearing.{does-sound, does-unsigned, does-filled, does-sent}
 use Rattle.run.proofs.send.Goals as goal
@@ -29,13 +28,6 @@ pub returns-then-rest-count_sent-gt-MAX_FLIGHT : goal.returns-then-rest-count_se
 returns-then-rest-count_sent-gt-MAX_FLIGHT c =
     let a = c.args in
     does-filled a.rest.plan a.rest.time a.rest.count a.s a.signed.now a.words.now a.sender a.recipient a.round a.signers (sym c.has.ensures ∙ c.if-not-has.false) _ c.unsigned.ensures c.if-unsigned.false _ c.heard-o.ensures (omega arith)
-
-pub returns-then-quiet : goal.returns-then-quiet
-returns-then-quiet c =
-    let a = c.args in
-    let limits = lies-limits c.requires.stands.lies in
-    let none = sends_none a.rest.plan a.rest.time.0 a.recipient (a.s.round + 1) c.heard-o.result a.words.now a.rest.count (record { place = limits.0; low = limits.1; fits = limits.2; room = omega (arith, c.count_sent.ensures, limits.4) }) (sym c.quiet.ensures ∙ c.if-quiet.true) in
-    does-sent a.rest.plan a.rest.time a.rest.count a.s a.signed.now a.words.now a.sender a.recipient a.round a.signers (sym c.has.ensures ∙ c.if-not-has.false) _ c.unsigned.ensures c.if-unsigned.false _ c.heard-o.ensures (omega arith) _ _ none.0 none.1
 
 pub overflow_add-s : goal.overflow_add-s
 overflow_add-s c = omega (arith, (lies-limits c.requires.stands.lies).1)
