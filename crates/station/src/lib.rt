@@ -24,8 +24,8 @@ pub struct Station {
     pub gathered: u64,
 }
 
-// What a station has done (the relay of no signers is none: an `Option` of a mask would have two ways to say so): how it stands then, whether it sent a ready, and the signers of the relay it sent (none: no
-// relay).
+// What a station has done: how it stands then, whether it sent a ready, and the signers of the relay it sent (none: no relay, for
+// which an `Option` of a mask would have two ways).
 #[derive(Clone, Copy)]
 pub struct Outcome {
     pub station: Station,
