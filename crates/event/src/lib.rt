@@ -63,7 +63,9 @@ fn bad_ends(stations: u64, faulty: u64, sender: u64, recipient: u64, round: u64)
         | clock::outside(1, clock::MAX_ROUND, round)
 }
 
-// Whether rule 11 bars an event of a line of so many stations with these faulty ones.
+// Whether rule 11 bars an event of a line of so many stations with these faulty ones. Each event of a script is asked, so
+// there is no call.
+#[inline(always)]
 pub fn barred(stations: u64, faulty: u64, event: Event, increments: &[u64]) -> bool
     ensures { result ≡ rule.barred stations faulty event increments.now }
 {

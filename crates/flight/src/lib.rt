@@ -113,7 +113,8 @@ pub fn message_at(words: &[u64], i: u64) -> Message
 
 // ---- finding a message
 
-// The first of `count` messages whose first word is `key`.
+// The first of `count` messages whose first word is `key`. Called, not inlined: the loop over the script stays small.
+#[inline(never)]
 fn seek(words: &[u64], count: u64, key: u64) -> Option<u64>
     requires { 3 * count ≤ length words.now }
     ensures found { unwrap_or result count ≡ flight.index_of (flight.unpacked key) (flight.decode count words.now) }

@@ -63,7 +63,8 @@ pub enum Refusal {
 }
 
 impl Refusal {
-    // Document 01's number.
+    // Document 01's number. Called, not inlined: its numbers are a table then, and no jump for each.
+    #[inline(never)]
     pub fn number(self) -> u64
         ensures { result ≡ given.number self }
     {
