@@ -2,7 +2,8 @@
 // with the record. A read or a write that fails is passed on.
 #![tactic(auto)]
 
-ghost use Rattle.std.specs.Prelude.{◌<◌, ◌≤◌, length, take, IfOk};
+ghost use Rattle.std.specs.Prelude.{◌<◌, ◌≤◌, length, take, IfOk, Some};
+ghost use Rattle.paper.specs.Paper as paper;
 ghost use Rattle.std.specs.Io.KnownBytes.{Consumes, IsAtEnd};
 
 use clock::{Moment, Reading};
@@ -87,7 +88,10 @@ pub enum Values {
     InFlight(u64),
 }
 
+// A line for a question, and nothing for an event.
 impl fmt::Display for Values {
+    ghost output = { λ v. Some (paper.values_text v) };
+
     fn fmt<W: fmt::Write>(&self, f: &mut fmt::Formatter<W>) -> fmt::Result {
         match self {
             Values::Event => Ok(()),
@@ -96,7 +100,10 @@ impl fmt::Display for Values {
                 "reading {} round {round}",
                 reading.0
             ),
-            Values::Lead(lead) => writeln!(f, "lead {lead}"),
+            Values::Lead(lead) => {
+                let sign = if *lead < 0 { "-" } else { "" };
+                writeln!(f, "lead {sign}{}", clock::magnitude(*lead))
+            }
             Values::InFlight(count) => writeln!(f, "flight {count}"),
         }
     }

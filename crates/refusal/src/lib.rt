@@ -1,7 +1,8 @@
 // The numbers that a caller gets back, document 01's, each with a name; 0 is what is accepted.
 #![tactic(auto)]
 
-ghost use Rattle.std.specs.Prelude.{◌≡◌};
+ghost use Rattle.std.specs.Prelude.{◌≡◌, Some};
+ghost use Rattle.std.specs.Fmt.{decimal};
 ghost use Rattle.refusal.specs.Refusal as given;
 
 use std::error::Error;
@@ -72,7 +73,10 @@ impl Refusal {
     }
 }
 
+// The number in decimal.
 impl fmt::Display for Refusal {
+    ghost output = { λ r. Some (decimal (given.number r)) };
+
     fn fmt<W: fmt::Write>(&self, f: &mut fmt::Formatter<W>) -> fmt::Result {
         write!(f, "{}", self.number())
     }
