@@ -58,7 +58,7 @@ impl<P: Print> Write for Page<'_, P> {
         }
         let end = self.out.len().min(self.place + bytes.len());
         let count = end - self.place;
-        self.out[self.place..end].copy_from_slice(&bytes[..count]);
+        let _ = writer::write_bytes(&bytes[..count], &mut self.out, self.place);
         self.place = end;
         Ok(count)
     }

@@ -15,6 +15,17 @@ use setup::Plan;
 
 // ---- bytes and numbers
 
+// Bytes laid at a place that has room for them.
+fn copy(bytes: &[u8], out: &mut [u8], at: usize)
+    requires { at + length bytes.now ≤ length out.old }
+    ensures { out.new ≡ number.laid out.old at bytes.now }
+{
+    // Tried by `copy_from_slice`: for the few bytes of a line's end it is slower.
+    for i in 0..bytes.len() {
+        out[at + i] = bytes[i];
+    }
+}
+
 // Writes bytes as they are at a place of the buffer: how many, or 25 where it is too short and nothing is written.
 pub fn write_bytes(bytes: &[u8], out: &mut [u8], at: usize) -> Result<usize, Refusal>
     ensures value { writer.as_written result ≡ writer.wrote out.old at bytes.now }
@@ -28,7 +39,7 @@ pub fn write_bytes(bytes: &[u8], out: &mut [u8], at: usize) -> Result<usize, Ref
     if space - at < count {
         return Err(Refusal::Short);
     }
-    out[at..at + count].copy_from_slice(bytes);
+    copy(bytes, out, at);
     Ok(count)
 }
 
