@@ -172,27 +172,21 @@ fn placed(count: u64) -> usize
 }
 
 impl Sheet {
-    fn read(numbers: &mut Reader) -> Result<Sheet, Refusal> {
-        let plan = read_plan(numbers)?;
-        let time = Moment(numbers.number()?);
+    // The record is read where the sheet lies: it is large, and not handed on by value. By place: the check finds no proof of a loop
+    // over the places themselves.
+    fn read(&mut self, numbers: &mut Reader) -> Result<(), Refusal> {
+        self.plan = read_plan(numbers)?;
+        self.time = Moment(numbers.number()?);
         let length = at_most(numbers.number()?, 16)?;
-        let mut stations = [line::no_station(); 16];
-        for s in &mut stations[..length] {
-            *s = read_station(numbers)?;
+        self.length = length;
+        for i in 0..length {
+            self.stations[i] = read_station(numbers)?;
         }
-        let count = numbers.number()?;
-        let mut messages = [flight::unpack(0, 0, 0); 1024];
-        for m in &mut messages[..placed(count)] {
-            *m = read_message(numbers)?;
+        self.count = numbers.number()?;
+        for i in 0..placed(self.count) {
+            self.messages[i] = read_message(numbers)?;
         }
-        Ok(Sheet {
-            plan,
-            time,
-            length,
-            stations,
-            count,
-            messages,
-        })
+        Ok(())
     }
 
     // Lays the messages into the words. Whether these hold all of them.
@@ -233,14 +227,14 @@ impl Sheet {
 }
 
 // Reads a record and what is asked of it; 24 for bytes behind the end.
-fn read(bytes: &[u8]) -> Result<(Sheet, Asked), Refusal> {
+fn read(bytes: &[u8], sheet: &mut Sheet) -> Result<Asked, Refusal> {
     let mut numbers = Reader::at(bytes, 0);
-    let sheet = Sheet::read(&mut numbers)?;
+    sheet.read(&mut numbers)?;
     let asked = read_asked(&mut numbers)?;
     if numbers.place() != bytes.len() {
         return Err(Refusal::Kind);
     }
-    Ok((sheet, asked))
+    Ok(asked)
 }
 
 // ---- both
@@ -298,8 +292,16 @@ fn answer(sheet: &mut Sheet, asked: Asked) -> Told {
 
 // One record, and one event or question on it: reads both, and prints the answer and the record then.
 pub fn single(rt: &impl Print, bytes: &[u8]) -> io::Result<()> {
-    match read(bytes) {
-        Ok((mut sheet, asked)) => {
+    let mut sheet = Sheet {
+        plan: Plan::default(),
+        time: Moment(0),
+        length: 0,
+        stations: [line::no_station(); 16],
+        count: 0,
+        messages: [flight::unpack(0, 0, 0); 1024],
+    };
+    match read(bytes, &mut sheet) {
+        Ok(asked) => {
             let told = answer(&mut sheet, asked);
             let stations = &sheet.stations[..sheet.length];
             let messages = &sheet.messages[..placed(sheet.count)];
