@@ -3,7 +3,7 @@
 // come apart, since any count and any words that are lent have to be answered.
 #![tactic(auto)]
 
-ghost use Rattle.std.specs.Prelude.{◌≡◌, true, ◌++◌, ◌+◌, ◌*◌, ◌%◌, ◌≤◌, ◌<◌, length, get_or, unwrap_or, IfSome};
+ghost use Rattle.std.specs.Prelude.{◌≡◌, ◌-◌, true, ◌++◌, ◌+◌, ◌*◌, ◌%◌, ◌≤◌, ◌<◌, length, get_or, unwrap_or, IfSome};
 ghost use Rattle.clock.specs.Limits.{max_stations};
 ghost use Rattle.clock.specs.Pick.{pick};
 ghost use Rattle.mask.specs.Mask.{has};
@@ -113,20 +113,33 @@ pub fn message_at(words: &[u64], i: u64) -> Message
 
 // ---- finding a message
 
-// The first of `count` messages whose first word is `key`. Called, not inlined: the loop over the script stays small.
+// How many of `count` messages are left from the first on whose first word is `key`; 0 where none is. Called, not inlined: the loop
+// over the script stays small, and this one, which answers what it counts, is of few bytes.
 #[inline(never)]
+fn left_from(words: &[u64], count: u64, key: u64) -> u64
+    requires { 3 * count ≤ length words.now }
+    ensures { result ≡ count - flight.index_of (flight.unpacked key) (flight.decode count words.now) }
+{
+    // `find` over the places is slower.
+    for i in 0..count {
+        if words[(3 * i) as usize] == key {
+            return count - i;
+        }
+    }
+    0
+}
+
+// The first of `count` messages whose first word is `key`.
 fn seek(words: &[u64], count: u64, key: u64) -> Option<u64>
     requires { 3 * count ≤ length words.now }
     ensures found { unwrap_or result count ≡ flight.index_of (flight.unpacked key) (flight.decode count words.now) }
     ensures within { IfSome result (λ i. i < count) }
 {
-    // `find` over the places is slower.
-    for i in 0..count {
-        if words[(3 * i) as usize] == key {
-            return Some(i);
-        }
+    let left = left_from(words, count, key);
+    if left == 0 {
+        return None;
     }
-    None
+    Some(count - left)
 }
 
 // The place `near` where the message there has the first word `key`, else what `seek` finds.

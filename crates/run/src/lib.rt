@@ -134,6 +134,10 @@ fn tell_noted(
     ensures words_after { words.new ≡ coded words.old
         (decode rest.count words.old ++ run.sends rest.plan rest.time.0 i round o) }
 {
+    // Most send nothing: these need no call.
+    if quiet(o) {
+        return rest.count;
+    }
     let after = tell(rest, words, i, round, o);
     notes::note_places(words, rest.count, after, places);
     after

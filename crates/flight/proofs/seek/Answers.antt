@@ -1,16 +1,20 @@
--- `flight::seek` finds the first message of these names: no message passed has the word, and equal words are equal names.
--- Assumes nothing.
-use Rattle.std.proofs.Common.{sym, arith}
-use Rattle.flight.proofs.Keys.{seek-at, seek-none}
+-- `flight::seek` finds the first message of these names: it is that many before the end as there are left from it on. Assumes nothing.
+use Rattle.std.proofs.Common.{◌≡◌, arith, length}
+use Rattle.flight.specs.Message.{decode, unpacked}
+use Rattle.flight.specs.Members.{index_of-most}
+use Rattle.flight.proofs.Coding.{length-decode}
 use Rattle.flight.proofs.seek.Goals as goal
 
-pub returns-then-words-i : goal.returns-then-words-i
-returns-then-words-i c =
+pub returns-then-left-eq0 : goal.returns-then-left-eq0
+returns-then-left-eq0 c =
     let a = c.args in
-    let b = c.loop-i in
-    record { found = sym (seek-at a.key a.count a.words.now b.i (omega arith) b.invariant c.if-words-i.true); within = omega arith }
+    let most = index_of-most (unpacked a.key) (decode a.count a.words.now) in
+    let many : length (decode a.count a.words.now) ≡ a.count = length-decode a.count a.words.now in
+    record { found = omega (arith, c.left_from-left.ensures, most, many); within = tt }
 
 pub returns : goal.returns
 returns c =
     let a = c.args in
-    record { found = sym (seek-none a.key a.count a.words.now (λ j h. c.loop-i.invariant j (omega arith))); within = tt }
+    let most = index_of-most (unpacked a.key) (decode a.count a.words.now) in
+    let many : length (decode a.count a.words.now) ≡ a.count = length-decode a.count a.words.now in
+    record { found = omega (arith, c.left_from-left.ensures, most, many); within = omega (arith, c.left_from-left.ensures) }
