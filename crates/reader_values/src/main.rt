@@ -10,11 +10,12 @@ const REHEARSAL: [u8; 51] = [
     1, 0, 1, 1, 1, 3, 3, 3, 0, 2, 1, 0, 1, 0, 1, 1, 1, 1, 0,
 ];
 
-// The answer to reading an event at a place, the place then, which is where the rest begins, and the rest. Answers that place.
+// The answer to reading an event at a place, the place then, which after a refusal is where the rest begins, and the rest. Answers
+// that place.
 fn show_event(rt: &impl Print, bytes: &[u8], at: usize, stations: u64) -> Result<usize> {
     let read = reader::event_at(bytes, at, stations);
     let rest = reader::rest_behind(bytes, at, stations);
-    let next = bytes.len().saturating_sub(rest.len());
+    let next = read.map_or(bytes.len().saturating_sub(rest.len()), |event| event.next);
     print!(rt; "{} {next}:", refusal::answer(&read))?;
     for byte in rest {
         print!(rt; " {byte:02x}")?;
