@@ -153,7 +153,7 @@ fn read_asked(numbers: &mut Reader) -> Result<Asked, Refusal> {
 // ---- a record
 
 // A record as it was read: of the places, whose memory is fixed, those are filled that `length` and `count` give, as far as there are any.
-#[derive(Clone, Copy)]
+#[derive(Drop)]
 struct Sheet {
     plan: Plan,
     time: Moment,
@@ -226,7 +226,7 @@ impl Sheet {
     }
 }
 
-// Reads a record and what is asked of it; 24 for bytes behind the end.
+// Reads a record and what is asked of it; 24 for bytes behind the end. Refused, the sheet holds what was read till then.
 fn read(bytes: &[u8], sheet: &mut Sheet) -> Result<Asked, Refusal> {
     let mut numbers = Reader::at(bytes, 0);
     sheet.read(&mut numbers)?;
