@@ -34,7 +34,8 @@ fn tenth(bytes: &[u8], at: usize, weight: u64, sum: u64) -> Result<(u64, usize),
     ends(u64::from(byte), weight, sum, at)
 }
 
-// The number at a place of the bytes, byte by byte.
+// The number at a place of the bytes, byte by byte. Cold: the place stays in a register, then, where numbers are one byte.
+#[cold]
 fn read_long(bytes: &[u8], at: usize) -> Result<(u64, usize), Refusal>
     ensures { form.as_number result ≡ form.read_number bytes.now at }
 {
@@ -62,11 +63,10 @@ fn read_long(bytes: &[u8], at: usize) -> Result<(u64, usize), Refusal>
 pub fn read_number(bytes: &[u8], at: usize) -> Result<(u64, usize), Refusal>
     ensures { form.as_number result ≡ form.read_number bytes.now at }
 {
-    let Some(&byte) = bytes.get(at) else {
-        return Err(Refusal::Cut);
-    };
-    if byte < 128 {
-        return Ok((u64::from(byte), at + 1));
+    if let Some(&byte) = bytes.get(at) {
+        if byte < 128 {
+            return Ok((u64::from(byte), at + 1));
+        }
     }
     read_long(bytes, at)
 }

