@@ -70,6 +70,16 @@ impl<P: Print> Write for Page<'_, P> {
     }
 }
 
+impl<P: Print> Page<'_, P> {
+    // What waits is printed where little room is left: what is printed at once then ends with a row.
+    fn make_room(&mut self) -> Result<()> {
+        if self.place > 60_000 {
+            self.flush()?;
+        }
+        Ok(())
+    }
+}
+
 // ---- an answer
 
 // What is answered to an event or a question, with the values of a question: refused, they are printed too, as zeros.
@@ -153,6 +163,7 @@ pub fn show(
         told.answer, told.values, time.0
     )?;
     for s in stations {
+        page.make_room()?;
         write_row(
             &mut page,
             b"station",
@@ -160,6 +171,7 @@ pub fn show(
         )?;
     }
     for m in messages {
+        page.make_room()?;
         write_row(
             &mut page,
             b"message",
